@@ -1,0 +1,124 @@
+-- "Reasons on a Satisfaction Order, first that holds".
+use Prim.Native.Nat.{ℕ, _+_, _-_}
+use mathlib.Core.Bool.{Bool, true, false, not, _&&_, _||_}
+use mathlib.Core.List.{List, [], _∷_}
+use Rattle.rules.specs.Basics.{if_then_else_, _==_, _atLeast_, _moreThan_, any, below, _when_, _¦_, firstOf}
+use Rattle.rules.specs.Limits.{closingMinutes}
+use Rattle.rules.specs.Header.{Header}
+use Rattle.rules.specs.Record.{Event, Quote, quote, Trade, trade, Order, order, response, Satisfaction, satisfaction, isSent}
+use Rattle.rules.specs.Journal.{History, count, since, sentAt, tradeAt, beforeTrade, answers}
+use Rattle.rules.specs.Prices.{absent, quotes, standing, nonFirm, inRotation}
+use Rattle.rules.specs.Verdicts.{theBid, neither, buy, sell, shown, worse, sideThrough, isBlock}
+
+-- ---- the case of a Satisfaction Order: itself, its trade, and the history before the trade. "Prices, customer contracts
+-- and statuses are those at the trade."
+
+pub record Case : Type 0 where
+  pub claim : Event
+  pub trade : Event
+  pub before : History
+
+-- of a Satisfaction Order, after the history before it
+unfoldable pub caseOf : History → Event → Case
+caseOf past e =
+    let n = (satisfaction e) .trade in
+    record { claim = e; trade = tradeAt n past; before = beforeTrade n past }
+
+-- the sender's quote at the trade, and the side of it traded through
+unfoldable pub senderQuote : Case → Quote
+senderQuote k = standing ((satisfaction (k .claim)) .sender) ((trade (k .trade)) .series) (k .before)
+
+unfoldable pub senderSide : Case → ℕ
+senderSide k = sideThrough (k .before) (trade (k .trade)) ((satisfaction (k .claim)) .sender)
+
+-- the sender's customer contracts on that side
+unfoldable pub customers : Case → ℕ
+customers k =
+    let q = senderQuote k in
+    let side = senderSide k in
+    if side == neither then 0 else if side == theBid then q .bidCustomers else q .offerCustomers
+
+-- ---- 2
+
+-- "a quote of that exchange in the series worse than its price or absent on that side"
+unfoldable pub backsAway : Order → Event → Bool
+backsAway o e =
+    let there = shown (o .side) (quote e) in
+    quotes (o .other) (o .series) e && (absent there || worse (o .side) there (o .price))
+
+-- "filled in full"
+unfoldable pub fillsAll : ℕ → Order → Event → Bool
+fillsAll n o e = answers n e && (response e) .filled == o .size
+
+-- "the excuse ends there"
+unfoldable pub endsExcuse : ℕ → Order → Event → Bool
+endsExcuse n o e = fillsAll n o e || backsAway o e
+
+-- "more than 20,000 ms before the trade"
+abbrev pub excuseWait : ℕ
+excuseWait = 20_000
+
+-- Home's sent order n went to exchange x in the series on that side so long before the time `now`, and nothing since has
+-- ended the excuse.
+unfoldable pub excuses : ℕ → ℕ → ℕ → ℕ → History → ℕ → Bool
+excuses x s side now past n =
+    let e = sentAt n past in
+    let o = order e in
+    o .other == x && o .series == s && o .side == side && now moreThan (e .time + excuseWait)
+    && not (any (endsExcuse n o) (since isSent n past))
+
+unfoldable pub hadSent : ℕ → ℕ → ℕ → ℕ → History → Bool
+hadSent x s side now past = any (excuses x s side now past) (below (count isSent past))
+
+-- ---- 8 and 9
+
+-- "Report = trade time plus delay."
+abbrev pub report : Event → ℕ
+report t = t .time + (trade t) .delay
+
+abbrev pub threeMinutes : ℕ
+threeMinutes = 180_000
+
+abbrev pub oneMinute : ℕ
+oneMinute = 60_000
+
+-- "plus 180,000 ms, or plus 60,000 if the report is at or after close less 300,000"
+unfoldable pub timeToClaim : Header → Event → ℕ
+timeToClaim h t = if report t atLeast (h .close - closingMinutes) then oneMinute else threeMinutes
+
+-- "received later than the report plus" some time
+unfoldable pub lateBy : ℕ → Event → Event → Bool
+lateBy allowed t e = e .time moreThan (report t + allowed)
+
+-- ---- 11 and 12
+
+-- "for a block the trade's, otherwise the bid or offer traded through"
+unfoldable pub required : Header → Case → ℕ
+required h k =
+    let t = trade (k .trade) in
+    let q = senderQuote k in
+    if isBlock h (k .before) t then t .price else if senderSide k == theBid then q .bid else q .offer
+
+-- ---- the table
+
+unfoldable pub reason : Header → Case → ℕ
+reason h k =
+    let c = satisfaction (k .claim) in
+    let t = trade (k .trade) in
+    let side = senderSide k in
+    let excusing : ℕ = if side == theBid then sell else buy in  -- "sell for a bid, buy for an offer"
+    let initiated = not (t .initiator == 0) in
+    firstOf
+    (10 when side == neither
+    ¦ 2 when hadSent (c .sender) (t .series) excusing (k .trade .time) (k .before)
+    ¦ 3 when nonFirm (c .sender) (k .before)
+    ¦ 4 when not initiated && nonFirm (h .home) (k .before)
+    ¦ 5 when inRotation (c .sender) (k .before)
+    ¦ 6 when inRotation (h .home) (k .before)
+    ¦ 7 when t .complex == 1
+    ¦ 8 when not initiated && lateBy (timeToClaim h (k .trade)) (k .trade) (k .claim)
+    ¦ 9 when initiated && lateBy threeMinutes (k .trade) (k .claim)
+    ¦ 11 when c .price == t .price && not (isBlock h (k .before) t)
+    ¦ 12 when not (c .price == required h k)
+    ¦ 13 when customers k == 0
+    ¦ [])
