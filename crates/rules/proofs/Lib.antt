@@ -1,1 +1,4 @@
+pub mod Tests
+pub mod Answers
+pub mod Histories
 pub mod ThirteenExamples
