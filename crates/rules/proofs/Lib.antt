@@ -4,4 +4,7 @@ pub mod Histories
 pub mod Numbers
 pub mod Records
 pub mod Journals
+pub mod Totals
+pub mod Lines
+pub mod Giving
 pub mod ThirteenExamples
