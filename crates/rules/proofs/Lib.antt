@@ -7,4 +7,5 @@ pub mod Journals
 pub mod Totals
 pub mod Lines
 pub mod Giving
+pub mod OwnSheet
 pub mod ThirteenExamples
