@@ -8,4 +8,8 @@ pub mod Totals
 pub mod Lines
 pub mod Giving
 pub mod OwnSheet
+pub mod CheckMeans
+pub mod Only
+pub mod Writing
 pub mod ThirteenExamples
+pub mod Sentences

@@ -88,10 +88,10 @@ rounds-give-as-many ls sv (suc n) h =
     let ih = rounds-give-as-many ls sv n (omega arith) in
     let c = claims-give n ls in
     let r =
-        round-gives-one (give n (map empty ls))
-        (λ a m u. let s = sv (a .line) (give-given n ls a m .from) in omega arith)
-        (λ a m. give-given n ls a m .within)
-        (omega arith) in
+    round-gives-one (give n (map empty ls))
+    (λ a m u. let s = sv (a .line) (give-given n ls a m .from) in omega arith)
+    (λ a m. give-given n ls a m .within)
+    (omega arith) in
     omega arith
 
 -- ---- and keep every two lines fair

@@ -18,3 +18,4 @@ pub mod Writing
 pub mod Only
 pub mod Open
 pub mod Examples
+pub mod Sentences
