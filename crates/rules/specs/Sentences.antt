@@ -2,9 +2,10 @@
 -- proofs/Sentences.antt shows that each row's two sides are the same.
 use Prim.Native.Nat.{ℕ}
 use mathlib.Core.List.{List, [], _∷_}
-use lib.ListN.{take, replicate}
+use lib.ListN.{take, drop, replicate}
 use Rattle.rules.specs.Basics.{Answer, refused, ok}
 use Rattle.rules.specs.Limits.{mostJournalBytes}
+use Rattle.rules.specs.Record.{Entry, entryBytes}
 use Rattle.rules.specs.Journal.{Journal, journal}
 use Rattle.rules.specs.OwnSheet.{ownSheet}
 use Rattle.rules.specs.SheetCheck.{checkSheet}
@@ -23,6 +24,9 @@ ownOf (ok j) = ownSheet j
 -- Day D's header alone
 abbrev pub headerD : List ℕ
 headerD = take 10 dayD
+
+abbrev pub quoteD : Entry
+quoteD = record { kind = 1; elapsed = 1_000; fields = 2 ∷ 0 ∷ 110 ∷ 20 ∷ 15 ∷ 120 ∷ 20 ∷ 0 ∷ [] }
 
 unfoldable pub sentences : List Example
 sentences =
@@ -43,4 +47,6 @@ sentences =
     ∷ example 11 (refusal (checkSheet dayD (3 ∷ 12 ∷ 8 ∷ []))) (22 ∷ 0 ∷ [])
     ∷ example 12 (refusal (checkSheet dayD (0 ∷ 13 ∷ 7 ∷ []))) (24 ∷ 0 ∷ [])
     ∷ example 13 (refusal (checkSheet dayD (0 ∷ 11 ∷ 9 ∷ []))) (25 ∷ 0 ∷ [])
+    -- "Writing a record": the quote of Day D is its eleven bytes
+    ∷ example 14 (entryBytes quoteD) (take 11 (drop 10 dayD))
     ∷ []
