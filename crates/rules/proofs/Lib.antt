@@ -6,6 +6,7 @@ pub mod Records
 pub mod Journals
 pub mod Totals
 pub mod Lines
+pub mod TradeLines
 pub mod Giving
 pub mod OwnSheet
 pub mod CheckMeans

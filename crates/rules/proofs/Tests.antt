@@ -127,6 +127,11 @@ unfolding keep
 keep-map p g [] = refl
 keep-map p g (x ∷ l) = byTest (p (g x)) (λ e. rw (e, keep-map p g l)) (λ e. rw (e, keep-map p g l))
 
+pub keep-append : {A : Type 0} (f : A → Bool) (a b : List A) → keep f (a ++ b) ≡ keep f a ++ keep f b
+unfolding keep
+keep-append f [] b = refl
+keep-append f (x ∷ a) b = byTest (f x) (λ e. rw (e, keep-append f a b)) (λ e. rw (e, keep-append f a b))
+
 pub map-same : {A B : Type 0} (f g : A → B) (l : List A) → ((x : A) → List·Memᴰ x l → f x ≡ g x) → map f l ≡ map g l
 map-same f g [] h = refl
 map-same f g (x ∷ l) h = rw (h x (List·Memᴰ·head refl), map-same f g l (λ y m. h y (List·Memᴰ·tail m)))
