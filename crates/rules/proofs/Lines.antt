@@ -4,8 +4,9 @@ use mathlib.Core.Bool.{Bool, true, false, not, _&&_, _||_, false≢true}
 use mathlib.Core.List.{List, [], _∷_, _++_, map, append-nil, List·Memᴰ, List·Memᴰ·head, List·Memᴰ·tail, List·Memᴰ·not-nil}
 use Prim.Native.Nat.{ℕ, zero, suc, _+_, _≤_, _<_, min}
 use native.Mathlib.Omega.{arith}
-use lib.ListN.{length, getD, length-append}
-use borrow.Author.Tests.{leb-true, eqb-true, ne-eqb}
+use lib.ListN.{length, getD, length-append, List·getD-append}
+use lib.Seq.{getD-at}
+use borrow.Author.Tests.{leb-true, ltb-true, ltb-false, eqb-true, ne-eqb}
 use Rattle.rules.specs.Basics.{if_then_else_, _==_, _atMost_, _lessThan_, within, all, keep, sum, any, Row, firstOf, Answer, ok}
 use Rattle.rules.specs.Limits.{mostContracts}
 use Rattle.rules.specs.Number.{largest}
@@ -182,3 +183,25 @@ dueOf-at-most-claims false size cs = omega arith
 pub due-at-most-claims : (j : Journal) (n : ℕ) → due j n ≤ sum (claimsOf (ofTrade n (lines j)))
 unfolding due
 due-at-most-claims j n = dueOf-at-most-claims _ _ _
+
+-- ---- a line's number is its place
+
+last-numbered : (xs : List Line) (x d : Line) → x .number ≡ length xs → ((i : ℕ) → i < length xs → (getD xs i d) .number ≡ i)
+    → (i : ℕ) → i < length (xs ++ (x ∷ [])) → (getD (xs ++ (x ∷ [])) i d) .number ≡ i
+last-numbered xs x d n f i l =
+    byTest (i lessThan length xs)
+    (λ s. let k : i < length xs = ltb-true _ _ s in ap (λ (y : Line). y .number) (List·getD-append xs (x ∷ []) d i k) ∙ f i k)
+    (λ s.
+    let k : length xs ≤ i = ltb-false _ _ s in
+    let e : length xs ≡ i = omega (arith, length-append xs (x ∷ [])) in
+    ap (λ (y : Line). y .number) (getD-at xs x [] d i e) ∙ n ∙ e)
+
+pub lines-numbered : (h : Header) (past : History) (d : Line) (i : ℕ) → i < length (linesOf h past) → (getD (linesOf h past) i d) .number ≡ i
+unfolding linesOf
+lines-numbered h [] d i l = absurd (omega arith)
+lines-numbered h (e ∷ past) d i l =
+    let ih = lines-numbered h past d in
+    let new : lineOf h past (count isSatisfaction past) e .number ≡ length (linesOf h past) = unfold lineOf in sym (lines-count h past) in
+    byTest (isSatisfaction e)
+    (λ s. rw s (last-numbered (linesOf h past) (lineOf h past (count isSatisfaction past) e) d new ih i (rw s at l)))
+    (λ s. rw (s, append-nil (linesOf h past)) (ih i (rw (s, append-nil (linesOf h past)) at l)))
