@@ -9,6 +9,7 @@ pub mod Lines
 pub mod TradeLines
 pub mod Giving
 pub mod OwnSheet
+pub mod ByTrade
 pub mod CheckMeans
 pub mod Only
 pub mod Writing

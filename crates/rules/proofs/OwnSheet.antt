@@ -115,7 +115,7 @@ fair-shares-keep-the-rule ss f =
 
 -- ---- looking a share up by its line's number finds it
 
-filled-at : (ss : List Share) → Apart (linesIn ss) → (a : Share) → List·Memᴰ a ss → filledAt (a .line .number) ss ≡ a .filled
+pub filled-at : (ss : List Share) → Apart (linesIn ss) → (a : Share) → List·Memᴰ a ss → filledAt (a .line .number) ss ≡ a .filled
 unfolding filledAt
 filled-at [] p a m = absurd (List·Memᴰ·not-nil m)
 filled-at (s ∷ ss) (further g p) a m =
@@ -142,11 +142,11 @@ unfolding beside ownLine
 own-beside j [] = refl
 own-beside j (l ∷ ls) = rw (own-beside j ls)
 
-own-lines : (j : Journal) (n : ℕ) → linesIn (ownShares j n) ≡ ofTrade n (lines j)
+pub own-lines : (j : Journal) (n : ℕ) → linesIn (ownShares j n) ≡ ofTrade n (lines j)
 unfolding ownShares
 own-lines j n = give-lines (due j n) (map empty (ofTrade n (lines j))) ∙ empty-lines (ofTrade n (lines j))
 
-own-apart : (j : Journal) (n : ℕ) → Apart (linesIn (ownShares j n))
+pub own-apart : (j : Journal) (n : ℕ) → Apart (linesIn (ownShares j n))
 unfolding ofTrade lines
 own-apart j n = rw (own-lines j n) (apart-keep _ (lines-apart (j .header) (j .history)))
 
