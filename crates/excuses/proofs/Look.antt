@@ -1,0 +1,149 @@
+-- A trade on its way down a chain: whether some order excuses it.
+use mathlib.Core.Path.{_≡_, refl, sym, ap, _∙_}
+use mathlib.Core.Bool.{Bool, true, false, not, _&&_, _||_}
+use mathlib.Core.List.{List, [], _∷_, _++_}
+use Prim.Native.Nat.{ℕ, zero, suc, _+_, _-_, _*_, _<_, _≤_}
+use native.Mathlib.Omega.{arith}
+use lib.Dec.{eqb, ltb}
+use lib.ListN.{getD, length}
+use borrow.Author.Tests.{eq-eqb, ne-eqb, eqb-true, eqb-false, ltb-true, ltb-false}
+use Rattle.rules.specs.Basics.{if_then_else_, _==_, _moreThan_, any, below}
+use Rattle.rules.specs.Record.{Event, order, isSent}
+use Rattle.rules.specs.Journal.{History, count, sentAt}
+use Rattle.rules.specs.Reasons.{excuseWait, excuses, hadSent}
+use Rattle.rules.proofs.Tests.{byTest, or-no, and-no}
+use Rattle.quotes.specs.Tables.{Within, RowIs}
+use Rattle.excuses.specs.Excuses.{bit, stands, Excused, chainOf, Link, OrderRow, Chains, excusing, Looking, HadSent}
+use Rattle.excuses.proofs.Words.{ended-not-excusing}
+use Rattle.excuses.proofs.Sweep.{in-chain, not-in-chain}
+
+-- ---- a test on the numbers below n
+
+any-snoc : (f : ℕ → Bool) (l : List ℕ) (n : ℕ) → any f (l ++ (n ∷ [])) ≡ (any f l || f n)
+unfolding any
+any-snoc f [] n = or-no (f n)
+any-snoc f (x ∷ l) n = rw (any-snoc f l n) (go (f x))
+  where
+    go : (b : Bool) → (b || (any f l || f n)) ≡ ((b || any f l) || f n)
+    go true = refl
+    go false = refl
+
+any-below-none : (f : ℕ → Bool) (n : ℕ) → ((m : ℕ) → m < n → f m ≡ false) → any f (below n) ≡ false
+unfolding below any
+any-below-none f zero none = refl
+any-below-none f (suc n) none = any-snoc f (below n) n ∙ rw (any-below-none f n (λ m h. none m (omega arith)), none n (omega arith))
+
+any-below-found : (f : ℕ → Bool) (n i : ℕ) → i < n → f i ≡ true → any f (below n) ≡ true
+unfolding below
+any-below-found f zero i h e = let z : ⊥ = omega arith in elim z [ ]
+any-below-found f (suc n) i h e =
+    any-snoc f (below n) n
+    ∙ byTest (eqb i n) (λ q. rw (← eqb-true i n q, e) (or-yes (any f (below i))))
+    (λ q. rw (any-below-found f n i (omega (arith, eqb-false i n q)) e))
+  where
+    or-yes : (b : Bool) → (b || true) ≡ true
+    or-yes true = refl
+    or-yes false = refl
+
+-- ---- what the row of an order says
+
+bit-is : (b : Bool) → (bit b == 1) ≡ b
+bit-is true = refl
+bit-is false = refl
+
+excuses-stands : (x s side now : ℕ) (past : History) (m : ℕ)
+    → excuses x s side now past m
+    ≡ ((order (sentAt m past)) .other == x && (order (sentAt m past)) .series == s && (order (sentAt m past)) .side == side
+    && now moreThan (sentAt m past .time + excuseWait) && stands m past)
+unfolding excuses stands
+excuses-stands x s side now past m = refl
+
+module _ (t : List ℕ) (n m x s side now : ℕ) (hm : m < n) (past : History) (held : Excused past t n) where
+  in-chain-excuses : getD t (m * 8 + 1) 0 ≡ x → getD t (m * 8 + 2) 0 ≡ s
+      → excuses x s side now past m ≡ excusing (getD t (m * 8 + 3) 0) (getD t (m * 8 + 6) 0) (getD t (m * 8 + 7) 0) side now
+  unfolding excusing
+  in-chain-excuses p q =
+      excuses-stands x s side now past m
+      ∙ rw (
+        eq-eqb ((order (sentAt m past)) .other) x (sym (held .fields m 1 hm (omega arith)) ∙ p),
+        eq-eqb ((order (sentAt m past)) .series) s (sym (held .fields m 2 hm (omega arith)) ∙ q),
+        held .fields m 3 hm (omega arith),
+        held .times m hm,
+        held .flags m hm,
+        bit-is (stands m past),
+      )
+
+  other-chain-not : (getD t (m * 8 + 1) 0 ≡ x → getD t (m * 8 + 2) 0 ≡ s → ⊥) → excuses x s side now past m ≡ false
+  other-chain-not ne =
+      excuses-stands x s side now past m
+      ∙ byTest (eqb ((order (sentAt m past)) .other) x)
+      (λ p. rw (p, ne-eqb ((order (sentAt m past)) .series) s (λ q. ne (held .fields m 1 hm (omega arith) ∙ eqb-true ((order (sentAt m past)) .other) x p) (held .fields m 2 hm (omega arith) ∙ q))))
+      (λ p. rw p)
+
+-- ---- the loop
+
+module _ (t ch : List ℕ) (n x s side now : ℕ) (c : Chains t ch n) (w : Within x s) where
+  pub look-start : (k i : ℕ) → RowIs x s k → (i ≡ getD ch k 0) × (i < 4294967296) → Looking t n ((x - 1) * 32 + s) side now i
+  look-start k i at ei =
+      let l : Link t ((x - 1) * 32 + s) n i = rw (← at .is, ei .0) (c .heads k (at .small)) in
+      record {
+        none = λ m h hm p. sym (ended-not-excusing _ _ _ _ _ (λ q. let a : m < i = l .all m hm p q in omega arith));
+        own = l .own;
+        low = l .down;
+        few = c .few;
+      }
+
+  module _ (i : ℕ) (lo : Looking t n ((x - 1) * 32 + s) side now i) where
+    pub look-end : i ≤ 0 → HadSent t n x s side now false
+    unfolding hadSent
+    look-end h =
+        record {
+          so =
+              λ past held. sym (any-below-none _ (count isSent past) (λ m hc.
+              let hm : m < n = omega (arith, held .numbered) in
+              byTest (eqb (chainOf t m) ((x - 1) * 32 + s))
+              (λ z. let p = eqb-true (chainOf t m) ((x - 1) * 32 + s) z in
+              let at = in-chain t m x s (c .rows m hm) w p in
+              in-chain-excuses t n m x s side now hm past held (at .0) (at .1) ∙ lo .none m (omega arith) hm p)
+              (λ z. other-chain-not t n m x s side now hm past held (not-in-chain t m x s (eqb-false (chainOf t m) ((x - 1) * 32 + s) z)))));
+        }
+
+    module _ (pos : 0 < i) where
+      here : i - 1 < n
+      here = omega (arith, lo .low)
+
+      module _ (b : Bool) (eb : b ≡ excusing (getD t ((i - 1) * 8 + 3) 0) (getD t ((i - 1) * 8 + 6) 0) (getD t ((i - 1) * 8 + 7) 0) side now) where
+        pub look-found : b ≡ true → HadSent t n x s side now true
+        unfolding hadSent
+        look-found p =
+            let at = in-chain t (i - 1) x s (c .rows (i - 1) here) w (lo .own pos) in
+            record {
+              so =
+                  λ past held. sym (any-below-found _ (count isSent past) (i - 1) (omega (arith, held .numbered, here))
+                  (in-chain-excuses t n (i - 1) x s side now here past held (at .0) (at .1) ∙ sym eb ∙ p));
+            }
+
+        module _ (p : b ≡ false) (j : ℕ) (ej : (j ≡ getD ch (256 + (i - 1)) 0) × (j < 4294967296)) where
+          rest : Link t ((x - 1) * 32 + s) (i - 1) j
+          rest = rw (ej .0, ← lo .own pos) (c .nexts (i - 1) here)
+
+          pub look-less : j < i
+          look-less = omega (arith, rest .down)
+
+          pub look-more : Looking t n ((x - 1) * 32 + s) side now j
+          look-more =
+              record {
+                none =
+                    λ m h hm q. byTest (ltb m i)
+                    (λ z. let lt : m < i = ltb-true m i z in
+                    byTest (eqb m (i - 1))
+                    (λ a. rw (eqb-true m (i - 1) a) (sym eb ∙ p))
+                    (λ a. sym (ended-not-excusing _ _ _ _ _ (λ f.
+                    let g : m < j = rest .all m (omega (arith, eqb-false m (i - 1) a)) q f in omega arith))))
+                    (λ z. lo .none m (ltb-false m i z) hm q);
+                own = rest .own;
+                low = omega (arith, look-less, lo .low);
+                few = lo .few;
+              }
+
+pub ruleset look-laws = (look-start, look-end, look-found, look-less, look-more)

@@ -1,0 +1,66 @@
+// The quotes and the statuses as they stand: one row of eight words for each exchange and series, one word for each exchange.
+ghost use Rattle.quotes.specs.Tables.{Within, RowIs, Placed, QuotesStep, StatusesStep};
+use rows::Rec;
+
+// A quote: the record's own eight fields.
+pub struct Quote;
+
+impl Quote {
+    pub const KIND: u32 = 1;
+
+    // How many series an exchange may quote.
+    pub const SERIES: usize = 32;
+
+    // A row's words, and those of them that verdicts and claims read.
+    pub const WORDS: usize = 8;
+
+    pub const BID: usize = 2;
+
+    pub const BID_CUSTOMERS: usize = 4;
+
+    pub const OFFER: usize = 5;
+
+    pub const OFFER_CUSTOMERS: usize = 7;
+}
+
+pub struct Status;
+
+impl Status {
+    pub const KIND: u32 = 2;
+
+    // "0 firm, 1 non-firm, 2 rotation"
+    pub const NON_FIRM: u32 = 1;
+
+    pub const ROTATION: u32 = 2;
+}
+
+// The row of an exchange's quotes in a series.
+pub fn row_of(exchange: usize, series: usize) -> usize
+    requires { ⌜ Within exchange series ⌝ }
+    ensures { λ r. ⌜ RowIs exchange series r ⌝ }
+{
+    (exchange - 1) * Quote::SERIES + series
+}
+
+// A quote stands until the exchange's next in the series; a record of any other kind changes none.
+pub fn keep_quote(q: &mut [u32; 2048], r: Rec)
+    requires { ⌜ Placed r ⌝ }
+    ensures { λ _. ⌜ QuotesStep r (now (q .entry)) (now (q .exit)) ⌝ }
+{
+    if r.kind == Quote::KIND {
+        let row = r.row;
+        let at = row_of(rows::index(row[0]), rows::index(row[1]));
+        rows::put_row(q, at, row);
+    }
+}
+
+// A status stands until the exchange's next; a record of any other kind changes none.
+pub fn keep_status(st: &mut [u32; 8], r: Rec)
+    requires { ⌜ Placed r ⌝ }
+    ensures { λ _. ⌜ StatusesStep r (now (st .entry)) (now (st .exit)) ⌝ }
+{
+    if r.kind == Status::KIND {
+        let row = r.row;
+        st[rows::index(row[0]) - 1] = row[1];
+    }
+}
