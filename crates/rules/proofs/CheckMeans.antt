@@ -16,23 +16,12 @@ use Rattle.rules.specs.Due.{Line, lines, due, Share, fair, shareRule}
 use Rattle.rules.specs.OwnSheet.{SheetLine, lineBytes, sheetBytes, ownLines, ownSheet}
 use Rattle.rules.specs.SheetCheck.{renumbered, sheetLines, Beside, beside, checkLine, checkLines, asShare, sharesOf, fillsOf, checkTrade, checkTrades, checkSheet}
 use Rattle.rules.specs.GoodSheet.{lineAt, saidAt, Storable, fillsOfTrade, GoodLines, GoodSheet}
-use Rattle.rules.proofs.Tests.{byTest, and-left, and-right, on-cons, all-at, all-make, keep-sub, keep-holds}
+use Rattle.rules.proofs.Tests.{byTest, and-left, and-right, on-cons, all-at, all-make, keep-sub, keep-holds, by-place, by-member}
 use Rattle.rules.proofs.Answers.{went, met, ok-is, refused-not-ok, demand-met}
 use Rattle.rules.proofs.Numbers.{Passes, read-numbers-again, bytes-append, written-numbers-are-bytes}
 use Rattle.rules.proofs.Lines.{LineKnown, journal-lines-known}
 use Rattle.rules.proofs.Giving.{Fair, fair-says, says-fair}
 use Rattle.rules.proofs.OwnSheet.{threeOf, Stores, written-sheet-reads-back, own-sheet-accepted}
-
--- ---- a list by its places, and by its members
-
-by-place : {A : Type 0} (P : A → Type 0) (d : A) (l : List A) → ((x : A) → List·Memᴰ x l → P x) → (i : ℕ) → i < length l → P (getD l i d)
-by-place P d [] f i h = absurd (omega arith)
-by-place P d (x ∷ l) f zero h = f x (List·Memᴰ·head refl)
-by-place P d (x ∷ l) f (suc i) h = by-place P d l (λ y m. f y (List·Memᴰ·tail m)) i (omega arith)
-
-by-member : {A : Type 0} (P : A → Type 0) (d : A) (l : List A) → ((i : ℕ) → i < length l → P (getD l i d)) → (x : A) → List·Memᴰ x l → P x
-by-member P d [] f x m = absurd (List·Memᴰ·not-nil m)
-by-member P d (y ∷ l) f x m = on-cons P (f 0 (omega arith)) (by-member P d l (λ i h. f (suc i) (omega arith))) x m
 
 abbrev noLine : Line
 noLine = record { number = 0; trade = 0; size = 0; reason = 0; customers = 0; claim = 0 }

@@ -3,7 +3,8 @@ use mathlib.Core.Path.{_≡_, refl, sym, ap, _∙_, subst}
 use mathlib.Core.Bool.{Bool, true, false, not, _&&_, _||_, true≢false, false≢true, So, and-eq-true-iff}
 use mathlib.Core.List.{List, [], _∷_, _++_, map, List·Memᴰ, List·Memᴰ·head, List·Memᴰ·tail, List·Memᴰ·not-nil, List·Memᴰ·cases-cons, List·Memᴰ·append-cases, List·Memᴰ·eq-of-singleton}
 use mathlib.Core.Logic.{_⊎_, inl, inr, _↔_}
-use Prim.Native.Nat.{ℕ, _+_, _≤_, _<_}
+use Prim.Native.Nat.{ℕ, zero, suc, _+_, _≤_, _<_}
+use lib.ListN.{length, getD}
 use native.Mathlib.Omega.{arith}
 use lib.Dec.{ltb, leb, eqb}
 use borrow.Author.Tests.{ltb-true, ltb-false, leb-true, leb-false, eqb-true, eqb-false, not-true, lt-ltb, le-ltb, le-leb, lt-leb, eq-eqb, ne-eqb}
@@ -153,3 +154,14 @@ at-end P xs false y f g x m = go (List·Memᴰ·append-cases xs m)
     go : List·Memᴰ x xs ⊎ List·Memᴰ x [] → P x
     go (inl m′) = f x m′
     go (inr m′) = absurd (List·Memᴰ·not-nil m′)
+
+-- ---- a list by its places, and by its members
+
+pub by-place : {A : Type 0} (P : A → Type 0) (d : A) (l : List A) → ((x : A) → List·Memᴰ x l → P x) → (i : ℕ) → i < length l → P (getD l i d)
+by-place P d [] f i h = absurd (omega arith)
+by-place P d (x ∷ l) f zero h = f x (List·Memᴰ·head refl)
+by-place P d (x ∷ l) f (suc i) h = by-place P d l (λ y m. f y (List·Memᴰ·tail m)) i (omega arith)
+
+pub by-member : {A : Type 0} (P : A → Type 0) (d : A) (l : List A) → ((i : ℕ) → i < length l → P (getD l i d)) → (x : A) → List·Memᴰ x l → P x
+by-member P d [] f x m = absurd (List·Memᴰ·not-nil m)
+by-member P d (y ∷ l) f x m = on-cons P (f 0 (omega arith)) (by-member P d l (λ i h. f (suc i) (omega arith))) x m
