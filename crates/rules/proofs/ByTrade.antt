@@ -145,3 +145,27 @@ own-fill-at j n i h t =
     ap (λ m. filledAt (lineAt (ofTrade n (lines j)) i .number) (ownShares j m)) t
     ∙ found
     ∙ sym (List·getD-map (λ (a : Share). a .filled) ss i noShare)
+
+-- ---- two lines of a trade have two numbers
+
+pub trade-lines-differ : (n base : ℕ) (ls : List Line) → NumberedFrom base ls → (i k : ℕ) → i < length (ofTrade n ls) → k < length (ofTrade n ls)
+    → lineAt (ofTrade n ls) i .number ≡ lineAt (ofTrade n ls) k .number → i ≡ k
+unfolding ofTrade keep
+trade-lines-differ n base [] f i k hi hk q = absurd (omega arith)
+trade-lines-differ n base (l ∷ ls) f i k hi hk q =
+    let g = later base l ls f in
+    let ih = trade-lines-differ n (suc base) ls g in
+    let there = trade-line-among-all n (suc base) ls g in
+    let first : l .number ≡ base = f 0 (omega arith) ∙ omega arith in
+    byTest (l .trade == n)
+    (λ e. both i k (rw e at hi) (rw e at hk) (rw e at q) first (λ m h. there m h .from) ih)
+    (λ e. ih i k (rw e at hi) (rw e at hk) (rw e at q))
+  where
+    both : (x y : ℕ) → x < length (l ∷ ofTrade n ls) → y < length (l ∷ ofTrade n ls)
+        → lineAt (l ∷ ofTrade n ls) x .number ≡ lineAt (l ∷ ofTrade n ls) y .number → l .number ≡ base
+        → ((m : ℕ) → m < length (ofTrade n ls) → suc base ≤ lineAt (ofTrade n ls) m .number)
+        → ((a b : ℕ) → a < length (ofTrade n ls) → b < length (ofTrade n ls) → lineAt (ofTrade n ls) a .number ≡ lineAt (ofTrade n ls) b .number → a ≡ b) → x ≡ y
+    both zero zero hx hy e z later-on ih = refl
+    both zero (suc y) hx hy e z later-on ih = absurd (omega (arith, later-on y (omega arith)))
+    both (suc x) zero hx hy e z later-on ih = absurd (omega (arith, later-on x (omega arith)))
+    both (suc x) (suc y) hx hy e z later-on ih = ap suc (ih x y (omega arith) (omega arith) e)

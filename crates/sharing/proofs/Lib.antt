@@ -1,0 +1,8 @@
+pub mod Words
+pub mod Due
+pub mod Turns
+pub mod Places
+pub mod Rounds
+pub mod Shares
+pub mod Rule
+pub mod Gathering

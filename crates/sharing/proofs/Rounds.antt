@@ -1,0 +1,156 @@
+-- A round of the definitions, by places: the line whose turn it is gets one contract; where every line is filled nothing changes;
+-- where all claims are due every line is filled.
+use mathlib.Core.Path.{_≡_, refl, sym, ap, _∙_, subst}
+use mathlib.Core.Bool.{Bool, true, false, not, _&&_, _||_, true≢false, false≢true}
+use mathlib.Core.List.{List, [], _∷_, map, List·Memᴰ, List·Memᴰ·head, List·Memᴰ·tail, List·Memᴰ·not-nil}
+use Prim.Native.Nat.{ℕ, zero, suc, _+_, _*_, _<_, _≤_}
+use native.Mathlib.Omega.{arith}
+use lib.Dec.{leb, ltb}
+use lib.ListN.{length, set}
+use borrow.Author.Tests.{ltb-true, ltb-false, lt-ltb, le-ltb, leb-true, leb-false, le-leb}
+use Rattle.rules.specs.Basics.{if_then_else_, all, sum}
+use Rattle.rules.specs.Due.{Line, claimsOf, Share, unfilled}
+use Rattle.rules.specs.OwnSheet.{noLater, isNext, oneMore, atFirst, giveOne, give, empty}
+use Rattle.rules.specs.SheetCheck.{fillsOf}
+use Rattle.rules.proofs.Tests.{byTest, and-left, and-right, and-make, when-true, when-make, all-at, all-make, on-cons}
+use Rattle.rules.proofs.Giving.{After, kept, given, after, next-open, total, claims, Within}
+use Rattle.rules.proofs.OwnSheet.{rounds-give-as-many}
+use Rattle.sharing.specs.Lines.{linesIn}
+use Rattle.sharing.specs.Turns.{shareAt}
+use Rattle.sharing.proofs.Places.{member-at, by-places}
+
+-- ---- the first line that a test picks
+
+first-gets : (f : Share → Bool) (ss : List Share) (m : ℕ) → m < length ss → f (shareAt ss m) ≡ true → ((i : ℕ) → i < m → f (shareAt ss i) ≡ false)
+    → fillsOf (atFirst f ss) ≡ set (fillsOf ss) m (shareAt ss m .filled + 1)
+unfolding atFirst
+first-gets f [] m h e f-not = absurd (omega arith)
+first-gets f (a ∷ ss) zero h e f-not = rw e
+first-gets f (a ∷ ss) (suc m) h e f-not =
+    rw (f-not 0 (omega arith), first-gets f ss m (omega arith) e (λ i l. f-not (suc i) (omega arith)))
+
+none-gets : (f : Share → Bool) (ss : List Share) → ((i : ℕ) → i < length ss → f (shareAt ss i) ≡ false) → atFirst f ss ≡ ss
+unfolding atFirst
+none-gets f [] f-not = refl
+none-gets f (a ∷ ss) f-not = rw (f-not 0 (omega arith), none-gets f ss (λ i l. f-not (suc i) (omega arith)))
+
+-- ---- the next line
+
+module _ (ss : List Share) (a : Share) where
+  is-next : a .filled < a .line .claim
+      → ((i : ℕ) → i < length ss → shareAt ss i .filled < shareAt ss i .line .claim → (a .filled + 1) * shareAt ss i .line .customers ≤ (shareAt ss i .filled + 1) * a .line .customers)
+      → isNext ss a ≡ true
+  unfolding isNext noLater
+  is-next u f =
+      and-make (unfilled a) _ (lt-ltb _ _ u)
+      (all-make (noLater a) ss (by-places (λ b. noLater a b ≡ true) ss (λ i h. when-make (unfilled (shareAt ss i)) _ (λ v. le-leb _ _ (f i h (ltb-true _ _ v))))))
+
+  not-next-filled : a .line .claim ≤ a .filled → isNext ss a ≡ false
+  unfolding isNext
+  not-next-filled h = rw (le-ltb (a .filled) (a .line .claim) h)
+
+  not-next-later : (i : ℕ) → i < length ss → shareAt ss i .filled < shareAt ss i .line .claim
+      → (shareAt ss i .filled + 1) * a .line .customers < (a .filled + 1) * shareAt ss i .line .customers → isNext ss a ≡ false
+  unfolding isNext noLater
+  not-next-later i h u lt =
+      byTest (isNext ss a)
+      (λ e.
+      let z : (a .filled + 1) * shareAt ss i .line .customers ≤ (shareAt ss i .filled + 1) * a .line .customers =
+      leb-true _ _ (when-true (unfilled (shareAt ss i)) _ (all-at (noLater a) ss (and-right (unfilled a) _ e) (member-at ss i h)) (lt-ltb _ _ u)) in
+      absurd (omega arith))
+      (λ e. e)
+
+module _ (ss : List Share) where
+  pub round-gives : (m : ℕ) → m < length ss → shareAt ss m .filled < shareAt ss m .line .claim
+      → ((i : ℕ) → i < length ss → shareAt ss i .filled < shareAt ss i .line .claim → (shareAt ss m .filled + 1) * shareAt ss i .line .customers ≤ (shareAt ss i .filled + 1) * shareAt ss m .line .customers)
+      → ((i : ℕ) → i < m → shareAt ss i .filled < shareAt ss i .line .claim → (shareAt ss m .filled + 1) * shareAt ss i .line .customers < (shareAt ss i .filled + 1) * shareAt ss m .line .customers)
+      → fillsOf (giveOne ss) ≡ set (fillsOf ss) m (shareAt ss m .filled + 1)
+  unfolding giveOne
+  round-gives m h u f g =
+      first-gets (isNext ss) ss m h (is-next ss (shareAt ss m) u f)
+      (λ i l. byTest (unfilled (shareAt ss i))
+      (λ e. not-next-later ss (shareAt ss i) m h u (g i l (ltb-true _ _ e)))
+      (λ e. not-next-filled ss (shareAt ss i) (ltb-false _ _ e)))
+
+  pub round-over : ((i : ℕ) → i < length ss → shareAt ss i .line .claim ≤ shareAt ss i .filled) → giveOne ss ≡ ss
+  unfolding giveOne
+  round-over f = none-gets (isNext ss) ss (λ i h. not-next-filled ss (shareAt ss i) (f i h))
+
+-- once a round changes nothing, no later one does
+pub rounds-over : (due n : ℕ) (ss : List Share) → n ≤ due → giveOne (give n ss) ≡ give n ss → give due ss ≡ give n ss
+unfolding give
+rounds-over zero n ss h e = let z : n ≡ 0 = omega arith in rw z
+rounds-over (suc due) n ss h e =
+    byTest (leb n due)
+    (λ l. ap giveOne (rounds-over due n ss (leb-true _ _ l) e) ∙ e)
+    (λ l. let z : n ≡ suc due = omega (arith, leb-false n due l) in rw z)
+
+-- ---- the lines stay
+
+atFirst-lines : (f : Share → Bool) (ss : List Share) → linesIn (atFirst f ss) ≡ linesIn ss
+unfolding atFirst
+atFirst-lines f [] = refl
+atFirst-lines f (a ∷ ss) = byTest (f a) (λ e. rw e) (λ e. rw (e, atFirst-lines f ss))
+
+pub round-keeps-lines : (ss : List Share) → linesIn (giveOne ss) ≡ linesIn ss
+unfolding giveOne
+round-keeps-lines ss = atFirst-lines (isNext ss) ss
+
+pub empty-keeps-lines : (ls : List Line) → linesIn (map empty ls) ≡ ls
+empty-keeps-lines [] = refl
+empty-keeps-lines (l ∷ ls) = rw (empty-keeps-lines ls)
+
+give-keeps-lines : (n : ℕ) (ls : List Line) → linesIn (give n (map empty ls)) ≡ ls
+unfolding give
+give-keeps-lines zero ls = empty-keeps-lines ls
+give-keeps-lines (suc n) ls = round-keeps-lines (give n (map empty ls)) ∙ give-keeps-lines n ls
+
+-- ---- where all claims are due
+
+round-keeps-within : (ss : List Share) → Within ss → Within (giveOne ss)
+unfolding giveOne
+round-keeps-within ss w a m = go (after ss ss a (λ c h. h) m)
+  where
+    go : After ss a → a .filled ≤ a .line .claim
+    go (kept k) = w a k
+    go (given b k e p) = let o = next-open ss b e in rw p (omega arith)
+
+empty-within : (ls : List Line) → Within (map empty ls)
+empty-within [] a m = absurd (List·Memᴰ·not-nil m)
+empty-within (l ∷ ls) a m = on-cons (λ (b : Share). b .filled ≤ b .line .claim) (omega arith) (empty-within ls) a m
+
+give-within : (n : ℕ) (ls : List Line) → Within (give n (map empty ls))
+unfolding give
+give-within zero ls = empty-within ls
+give-within (suc n) ls = round-keeps-within (give n (map empty ls)) (give-within n ls)
+
+within-total : (ss : List Share) → Within ss → total ss ≤ claims ss
+unfolding sum
+within-total [] w = omega arith
+within-total (a ∷ ss) w = omega (arith, w a (List·Memᴰ·head refl), within-total ss (λ b m. w b (List·Memᴰ·tail m)))
+
+full-total-fills : (ss : List Share) → Within ss → claims ss ≤ total ss → fillsOf ss ≡ claimsOf (linesIn ss)
+unfolding sum
+full-total-fills [] w h = refl
+full-total-fills (a ∷ ss) w h =
+    let p = w a (List·Memᴰ·head refl) in
+    let v : Within ss = λ b m. w b (List·Memᴰ·tail m) in
+    let q = within-total ss v in
+    let e : a .filled ≡ a .line .claim = omega arith in
+    rw (e, full-total-fills ss v (omega arith))
+
+claims-of-lines : (ss : List Share) → claims ss ≡ sum (claimsOf (linesIn ss))
+unfolding sum
+claims-of-lines [] = refl
+claims-of-lines (a ∷ ss) = rw (claims-of-lines ss)
+
+-- "each line gets its claim"
+pub all-claims-due-fills-every-claim : (ls : List Line) → ((l : Line) → List·Memᴰ l ls → l .claim ≤ l .customers)
+    → fillsOf (give (sum (claimsOf ls)) (map empty ls)) ≡ claimsOf ls
+all-claims-due-fills-every-claim ls served =
+    let n : ℕ = sum (claimsOf ls) in
+    let ss : List Share = give n (map empty ls) in
+    let e : linesIn ss ≡ ls = give-keeps-lines n ls in
+    let t : total ss ≡ n = rounds-give-as-many ls served n (omega arith) in
+    let c : claims ss ≡ n = claims-of-lines ss ∙ ap (λ (x : List Line). sum (claimsOf x)) e in
+    full-total-fills ss (give-within n ls) (omega arith) ∙ ap claimsOf e

@@ -1,0 +1,103 @@
+-- Whose turn it is to get a contract, and what the steps of sharing out and of the share rule do to the words.
+use mathlib.Core.Path.{_≡_}
+use mathlib.Core.Bool.{Bool, true, not, _&&_}
+use mathlib.Core.List.{List}
+use Prim.Native.Nat.{ℕ, _+_, _*_, _<_, _≤_}
+use lib.ListN.{getD, length, take, drop, set}
+use Rattle.rules.specs.Basics.{if_then_else_, _lessThan_, sum}
+use Rattle.rules.specs.Due.{Line, Share, fair}
+use Rattle.rules.specs.OwnSheet.{give, giveOne}
+use Rattle.rules.specs.SheetCheck.{fillsOf}
+use Rattle.sharing.specs.declared.Turn.{Turn}
+use Rattle.sharing.specs.Lines.{Gathered}
+
+abbrev pub at : List ℕ → ℕ → ℕ
+at l i = getD l i 0
+
+-- ---- the first words: summed, copied
+
+pub record Summing (words : List ℕ) (k i sum-so-far : ℕ) : Type 0 where
+  pub is : sum-so-far ≡ sum (take i words)
+  pub small : sum-so-far ≤ i * 4294967295
+  pub low : i ≤ k
+
+pub record Copied (from : List ℕ) (k : ℕ) (before after : List ℕ) : Type 0 where
+  pub first : take k after ≡ take k from
+  pub others : drop k after ≡ drop k before
+
+pub record Copying (from : List ℕ) (k : ℕ) (before after : List ℕ) (i : ℕ) : Type 0 where
+  pub copied : Copied from i before after
+  pub long : length after ≡ length before
+  pub low : i ≤ k
+
+-- ---- turns
+
+-- the line, if it is unfilled and its turn comes before the best one's; cross products stand for (fill + 1) per customer contract
+unfoldable pub soonerOf : Turn → ℕ → ℕ → ℕ → ℕ → Turn
+soonerOf best line fill claim customers =
+    if fill lessThan claim && (fill + 1) * best .customers lessThan best .fill * customers
+    then record { line = line; fill = fill + 1; customers = customers }
+    else best
+
+-- of the lines below `seen`, the turn is the unfilled one's with the least (fill + 1) per customer contract, the earliest on a tie
+pub record Least (claim customers fill : List ℕ) (seen : ℕ) (t : Turn) : Type 0 where
+  pub here : t .line < seen
+  pub unfilled : at fill (t .line) < at claim (t .line)
+  pub one-more : t .fill ≡ at fill (t .line) + 1
+  pub own : t .customers ≡ at customers (t .line)
+  pub least : (i : ℕ) → i < seen → at fill i < at claim i → t .fill * at customers i ≤ (at fill i + 1) * t .customers
+  pub earliest : (i : ℕ) → i < t .line → at fill i < at claim i → t .fill * at customers i < (at fill i + 1) * t .customers
+
+pub record Nobody (claim fill : List ℕ) (k seen : ℕ) (t : Turn) : Type 0 where
+  pub filled : (i : ℕ) → i < seen → at claim i ≤ at fill i
+  pub is : t ≡ record { line = k; fill = 1; customers = 0 }
+
+pub data Found (claim customers fill : List ℕ) (k seen : ℕ) (t : Turn) : Type 0 where
+  nobody : Nobody claim fill k seen t → Found claim customers fill k seen t
+  least : Least claim customers fill seen t → Found claim customers fill k seen t
+
+abbrev pub Served : List ℕ → List ℕ → ℕ → Type 0
+Served claim customers k = (i : ℕ) → i < k → at claim i ≤ at customers i
+
+pub record Scanning (claim customers fill : List ℕ) (k i : ℕ) (t : Turn) : Type 0 where
+  pub found : Served claim customers k → Found claim customers fill k i t
+  pub line-low : t .line ≤ k
+  pub low : i ≤ k
+
+-- the round of the definitions
+pub record NextTurn (claim customers fill : List ℕ) (k : ℕ) (t : Turn) : Type 0 where
+  pub low : t .line ≤ k
+  pub gives : (ss : List Share) → Gathered ss claim customers fill k → t .line < k → fillsOf (giveOne ss) ≡ set (fillsOf ss) (t .line) (t .fill)
+  pub over : (ss : List Share) → Gathered ss claim customers fill k → k ≤ t .line → giveOne ss ≡ ss
+
+-- so many rounds
+pub record Given (claim customers : List ℕ) (k contracts : ℕ) (before after : List ℕ) : Type 0 where
+  pub gave : (ss : List Share) → Gathered ss claim customers before k → Gathered (give contracts ss) claim customers after k
+  pub others : drop k after ≡ drop k before
+
+pub record Giving (claim customers : List ℕ) (k contracts : ℕ) (before fill : List ℕ) (given : ℕ) : Type 0 where
+  pub so-far : Given claim customers k given before fill
+  pub low : given ≤ contracts
+
+-- ---- the share rule
+
+pub record Breaks (fill claim customers other-fill other-customers : ℕ) (broken : Bool) : Type 0 where
+  pub is : (a b : Share) → a .filled ≡ fill → a .line .claim ≡ claim → a .line .customers ≡ customers
+      → b .filled ≡ other-fill → b .line .customers ≡ other-customers → broken ≡ not (fair a b)
+
+abbrev pub noLine : Line
+noLine = record { number = 0; trade = 0; size = 0; reason = 0; customers = 0; claim = 0 }
+
+abbrev pub noShare : Share
+noShare = record { line = noLine; filled = 0 }
+
+abbrev pub shareAt : List Share → ℕ → Share
+shareAt ss i = getD ss i noShare
+
+-- the lines below i are fair to every line, line i to the lines below j
+pub record FairSoFar (claim customers fill : List ℕ) (k i j : ℕ) (kept : Bool) : Type 0 where
+  pub still : kept ≡ true
+  pub lines : (ss : List Share) → Gathered ss claim customers fill k → (a b : ℕ) → a < i → b < k → fair (shareAt ss a) (shareAt ss b) ≡ true
+  pub line : (ss : List Share) → Gathered ss claim customers fill k → (b : ℕ) → b < j → fair (shareAt ss i) (shareAt ss b) ≡ true
+  pub low : i ≤ k
+  pub others-low : j ≤ k

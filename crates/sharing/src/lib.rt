@@ -1,0 +1,160 @@
+// One trade's lines: what is due in all, how it is shared out among them, and whether a sheet's fills keep the share rule.
+// A trade has at most one line for each other exchange, so its claims, customer contracts and fills are the first k words of eight.
+ghost use mathlib.Core.Path.{_≡_};
+ghost use Prim.Native.Nat.{_≤_};
+ghost use lib.ListN.{length, take};
+ghost use Rattle.rules.specs.Basics.{sum};
+ghost use Rattle.sharing.specs.Lines.{DueIs, SharedOut, RuleAnswered};
+ghost use Rattle.sharing.specs.Turns.{Copied, soonerOf, NextTurn, Given, Breaks};
+
+// The sum of the first k words.
+pub fn total(words: &[u32; 8], k: usize) -> u64
+    requires { ⌜ k ≤ 8 ⌝ }
+    ensures { λ r. ⌜ r ≡ sum (take k (now (words .entry))) ⌝ }
+{
+    let mut sum: u64 = 0;
+    let mut i: usize = 0;
+    while i < k {
+        sum += rows::wide(words[i]);
+        i += 1;
+    }
+    sum
+}
+
+// "the lesser of trade size and the sum of claims; else the sum of claims"
+pub fn due_of(capped: bool, size: u32, claims: u64) -> u64
+    ensures { λ r. ⌜ DueIs capped size claims r ⌝ }
+{
+    if !capped {
+        return claims;
+    }
+    let size = rows::wide(size);
+    if size < claims {
+        return size;
+    }
+    claims
+}
+
+// The line that the next contract goes to: its number, its fill with that contract, its customer contracts.
+struct Turn {
+    line: usize,
+    fill: u32,
+    customers: u32,
+}
+
+// "the unfilled line with the least (fill + 1) per customer contract, the earliest on a tie": of the best line so far and a later one.
+fn sooner(best: Turn, line: usize, fill: u32, claim: u32, customers: u32) -> Turn
+    ensures { λ r. ⌜ r ≡ soonerOf best line fill claim customers ⌝ }
+{
+    if claim <= fill {
+        return best;
+    }
+    let more = fill + 1;
+    if rows::wide(more) * rows::wide(best.customers)
+        < rows::wide(best.fill) * rows::wide(customers)
+    {
+        return Turn {
+            line,
+            fill: more,
+            customers,
+        };
+    }
+    best
+}
+
+// Where every line is filled, the answer's line is k: one contract on no customer contracts comes after any line's turn.
+fn next_turn(claim: &[u32; 8], customers: &[u32; 8], fill: &[u32; 8], k: usize) -> Turn
+    requires { ⌜ k ≤ 8 ⌝ }
+    ensures { λ r. ⌜ NextTurn (now (claim .entry)) (now (customers .entry)) (now (fill .entry)) k r ⌝ }
+{
+    let mut turn = Turn {
+        line: k,
+        fill: 1,
+        customers: 0,
+    };
+    let mut i: usize = 0;
+    while i < k {
+        turn = sooner(turn, i, fill[i], claim[i], customers[i]);
+        i += 1;
+    }
+    turn
+}
+
+fn copy_first(from: &[u32], k: usize, to: &mut [u32])
+    requires { ⌜ (k ≤ length (now from)) × (k ≤ length (now to)) ⌝ }
+    ensures { λ _. ⌜ Copied (now (from .entry)) k (now (to .entry)) (now (to .exit)) ⌝ }
+{
+    let mut i: usize = 0;
+    while i < k {
+        to[i] = from[i];
+        i += 1;
+    }
+}
+
+// "one contract at a time, each to the unfilled line with the least (fill + 1) per customer contract": so many more, or until every line is filled.
+fn give_in_turn(
+    claim: &[u32; 8],
+    customers: &[u32; 8],
+    k: usize,
+    contracts: u64,
+    fill: &mut [u32; 8],
+)
+    requires { ⌜ k ≤ 8 ⌝ }
+    ensures { λ _. ⌜ Given (now (claim .entry)) (now (customers .entry)) k contracts (now (fill .entry)) (now (fill .exit)) ⌝ }
+{
+    let mut given: u64 = 0;
+    while given < contracts {
+        let turn = next_turn(claim, customers, fill, k);
+        let line = turn.line;
+        if line == k {
+            return;
+        }
+        fill[line] = turn.fill;
+        given += 1;
+    }
+}
+
+// The fills of our own sheet. Where all claims are due each line gets its claim at once. Words of fill from k on stay.
+pub fn share_out(claim: &[u32; 8], customers: &[u32; 8], k: usize, due: u64, fill: &mut [u32; 8])
+    requires { ⌜ k ≤ 8 ⌝ }
+    ensures { λ _. ⌜ SharedOut (now (claim .entry)) (now (customers .entry)) k due (now (fill .entry)) (now (fill .exit)) ⌝ }
+{
+    if due == total(claim, k) {
+        copy_first(claim, k, fill);
+        return;
+    }
+    let none = [0u32; 8];
+    copy_first(&none, k, fill);
+    give_in_turn(claim, customers, k, due, fill);
+}
+
+// Whether the first line, filled below its claim, has too little beside the second.
+fn breaks(fill: u32, claim: u32, customers: u32, fill2: u32, customers2: u32) -> bool
+    ensures { λ r. ⌜ Breaks fill claim customers fill2 customers2 r ⌝ }
+{
+    if claim <= fill {
+        return false;
+    }
+    rows::wide(fill + 1) * rows::wide(customers2) < rows::wide(fill2) * rows::wide(customers)
+}
+
+// The share rule, "for any two lines of a trade": the checker "stops at the first pair of lines that breaks" it.
+pub fn keeps_rule(claim: &[u32; 8], customers: &[u32; 8], fill: &[u32; 8], k: usize) -> bool
+    requires { ⌜ k ≤ 8 ⌝ }
+    ensures { λ r. ⌜ RuleAnswered (now (claim .entry)) (now (customers .entry)) (now (fill .entry)) k r ⌝ }
+{
+    let mut kept = true;
+    let mut i: usize = 0;
+    'lines: while i < k {
+        let mut j: usize = 0;
+        while j < k {
+            if breaks(fill[i], claim[i], customers[i], fill[j], customers[j]) {
+                kept = false;
+                break 'lines;
+            }
+            j += 1;
+        }
+        i += 1;
+    }
+    kept
+}
