@@ -1,19 +1,19 @@
 -- A trade on its way down a chain: whether some order excuses it.
-use mathlib.Core.Path.{_≡_, refl, sym, ap, _∙_}
-use mathlib.Core.Bool.{Bool, true, false, not, _&&_, _||_}
+use mathlib.Core.Path.{_≡_, refl, sym, _∙_}
+use mathlib.Core.Bool.{Bool, true, false, _&&_, _||_}
 use mathlib.Core.List.{List, [], _∷_, _++_}
 use Prim.Native.Nat.{ℕ, zero, suc, _+_, _-_, _*_, _<_, _≤_}
 use native.Mathlib.Omega.{arith}
 use lib.Dec.{eqb, ltb}
-use lib.ListN.{getD, length}
+use lib.ListN.{getD}
 use borrow.Author.Tests.{eq-eqb, ne-eqb, eqb-true, eqb-false, ltb-true, ltb-false}
-use Rattle.rules.specs.Basics.{if_then_else_, _==_, _moreThan_, any, below}
-use Rattle.rules.specs.Record.{Event, order, isSent}
+use Rattle.rules.specs.Basics.{_==_, _moreThan_, any, below}
+use Rattle.rules.specs.Record.{order, isSent}
 use Rattle.rules.specs.Journal.{History, count, sentAt}
 use Rattle.rules.specs.Reasons.{excuseWait, excuses, hadSent}
-use Rattle.rules.proofs.Tests.{byTest, or-no, and-no}
+use Rattle.rules.proofs.Tests.{byTest, or-no}
 use Rattle.quotes.specs.Tables.{Within, RowIs}
-use Rattle.excuses.specs.Excuses.{bit, stands, Excused, chainOf, Link, OrderRow, Chains, excusing, Looking, HadSent}
+use Rattle.excuses.specs.Excuses.{bit, stands, Excused, chainOf, Link, Chains, excusing, Looking, HadSent}
 use Rattle.excuses.proofs.Words.{ended-not-excusing}
 use Rattle.excuses.proofs.Sweep.{in-chain, not-in-chain}
 

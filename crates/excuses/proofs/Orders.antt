@@ -1,13 +1,13 @@
 -- The table of sent orders beside the history: what one more event of each kind does to the excuse of an order.
 use mathlib.Core.Path.{_≡_, refl, sym, ap, _∙_}
 use mathlib.Core.Bool.{Bool, true, false, not, _&&_, _||_}
-use mathlib.Core.List.{List, [], _∷_}
-use Prim.Native.Nat.{ℕ, _+_, _*_, _<_, _≤_}
+use mathlib.Core.List.{List, _∷_}
+use Prim.Native.Nat.{ℕ, _+_, _*_, _<_}
 use native.Mathlib.Omega.{arith}
 use lib.Dec.{eqb}
 use lib.ListN.{getD}
 use borrow.Author.Tests.{eq-eqb, ne-eqb, eqb-true, eqb-false}
-use Rattle.rules.specs.Basics.{if_then_else_, _==_, any}
+use Rattle.rules.specs.Basics.{_==_, any}
 use Rattle.rules.specs.Record.{Event, Order, field, order, isSent, quoteKind, sentKind, responseKind}
 use Rattle.rules.specs.Journal.{History, count, since, sentAt, answers}
 use Rattle.rules.specs.Prices.{quotes}

@@ -1,10 +1,10 @@
 -- A sent order, a response, and a record of any kind, as the code takes them.
 use mathlib.Core.Path.{_≡_, refl, sym, ap, _∙_}
 use mathlib.Core.List.{List, [], _∷_}
-use Prim.Native.Nat.{ℕ, zero, suc, _+_, _-_, _*_, _<_, _≤_}
+use Prim.Native.Nat.{ℕ, zero, suc, _+_, _*_, _<_, _≤_}
 use native.Mathlib.Omega.{arith}
 use lib.Dec.{eqb}
-use lib.ListN.{getD, length, set, replicate, length-replicate, getD-replicate}
+use lib.ListN.{getD, length, set, replicate, length-replicate}
 use borrow.Author.Tests.{eq-eqb, ne-eqb, eqb-true, eqb-false}
 use Rattle.rules.specs.Basics.{keep}
 use Rattle.rules.specs.Record.{Event, field, order, isSent, quoteKind, sentKind, responseKind}

@@ -1,22 +1,21 @@
 -- A quote on its way down a chain: the excuses that it ends, the orders that leave the chain, and what is so at the end.
 use mathlib.Core.Path.{_≡_, refl, sym, ap, _∙_}
-use mathlib.Core.Bool.{Bool, true, false, not, _&&_, _||_}
-use mathlib.Core.List.{List, [], _∷_}
+use mathlib.Core.Bool.{Bool, true, false, not}
+use mathlib.Core.List.{List, _∷_}
 use Prim.Native.Nat.{ℕ, _+_, _-_, _*_, _<_, _≤_}
 use native.Mathlib.Omega.{arith}
 use lib.Dec.{eqb, ltb}
 use lib.ListN.{getD, length, set}
 use lib.Seq.{getD-set-same}
 use borrow.Author.Tests.{eq-eqb, ne-eqb, eqb-true, eqb-false, ltb-true, ltb-false}
-use Rattle.rules.specs.Basics.{if_then_else_, _==_}
-use Rattle.rules.specs.Record.{Event, field, order, isSent, quoteKind, sentKind}
+use Rattle.rules.specs.Basics.{_==_}
+use Rattle.rules.specs.Record.{Event, order, isSent, quoteKind}
 use Rattle.rules.specs.Journal.{History, count, sentAt}
-use Rattle.rules.specs.Reasons.{endsExcuse}
 use Rattle.rules.proofs.Tests.{byTest, and-left}
 use Rattle.rows.specs.Rows.{Reads, word}
 use Rattle.rows.specs.declared.Rec.{Rec}
 use Rattle.quotes.specs.Tables.{Within, RowIs}
-use Rattle.excuses.specs.Excuses.{bit, stands, Excused, chainOf, Link, OrderRow, Chains, backed, outlived, flagAfter, Sweeping, Placed, ExcusesStep}
+use Rattle.excuses.specs.Excuses.{bit, stands, Excused, chainOf, Link, OrderRow, Chains, backed, outlived, flagAfter, Sweeping, ExcusesStep}
 use Rattle.excuses.proofs.Orders.{kind-not, stands-older, stands-kept, quote-ends, other-quote-ends-none, excused-after}
 use Rattle.excuses.proofs.Chains.{chain-same, cleared-here, cleared-word, cleared-other, cleared-chain, chains-cleared, chains-without}
 

@@ -1,8 +1,8 @@
 -- Reason 2: the table of sent orders, a row of eight words for each (its six fields, its time, whether its excuse stands), and
 -- the chains by which a quote or a trade finds the orders to one exchange in one series.
 use mathlib.Core.Path.{_≡_}
-use mathlib.Core.Bool.{Bool, true, false, not, _&&_, _||_}
-use mathlib.Core.List.{List, [], _∷_}
+use mathlib.Core.Bool.{Bool, false, not, _&&_, _||_}
+use mathlib.Core.List.{List, _∷_}
 use Prim.Native.Nat.{ℕ, _+_, _-_, _*_, _<_, _≤_}
 use lib.ListN.{getD, length}
 use Rattle.rules.specs.Basics.{if_then_else_, _==_, _moreThan_, any}

@@ -6,28 +6,34 @@ ghost use Rattle.rules.specs.Record.{quoteKind, sentKind, responseKind};
 ghost use Rattle.rows.specs.Rows.{word, QuoteOk, OrderOk};
 ghost use Rattle.quotes.specs.Tables.{Within};
 ghost use Rattle.excuses.specs.Excuses.{Chains, Placed, Filled, ExcusesStep, HadSent, backed, outlived, excusing};
-use quotes::Quote;
+use numbered::SentOrder;
 use rows::Rec;
 
-pub struct SentOrder;
+// What is kept of a sent order: its six fields, its time, whether its excuse stands.
+pub struct Excuse;
 
-impl SentOrder {
-    pub const KIND: u32 = 4;
+impl Excuse {
+    pub const SIDE: usize = 3;
 
-    pub const MOST: usize = 256;
+    pub const PRICE: usize = 4;
+
+    pub const SIZE: usize = 5;
+
+    pub const TIME: usize = 6;
+
+    pub const STANDS: usize = 7;
+
+    // "side (1 buy, 2 sell)"
+    pub const BUY: u32 = 1;
+
+    pub const SELL: u32 = 2;
 
     // "more than 20,000 ms before the trade"
-    pub const EXCUSE_WAIT: u64 = 20000;
+    pub const WAIT: u64 = 20000;
 }
 
-pub struct Response;
-
-impl Response {
-    pub const KIND: u32 = 5;
-}
-
-fn number(n: usize) -> u32
-    requires { ⌜ n ≤ 256 ⌝ }
+pub fn number(n: usize) -> u32
+    requires { ⌜ n < 4294967296 ⌝ }
     ensures { λ r. ⌜ r ≡ n ⌝ }
 {
     n as u32
@@ -60,8 +66,8 @@ fn answered(t: &mut [u32; 2048], n: usize, r: Rec)
 {
     let row = r.row;
     let at = rows::index(row[0]) * 8;
-    if t[at + 5] == row[1] {
-        t[at + 7] = 0;
+    if t[at + Excuse::SIZE] == row[1] {
+        t[at + Excuse::STANDS] = 0;
         return;
     }
 }
@@ -71,7 +77,7 @@ fn backs_away(side: u32, price: u32, bid: u32, offer: u32) -> bool
     requires { ⌜ 1 ≤ price ⌝ }
     ensures { λ r. ⌜ r ≡ backed side price bid offer ⌝ }
 {
-    if side == 1 {
+    if side == Excuse::BUY {
         if offer == 0 {
             return true;
         }
@@ -84,10 +90,15 @@ fn outlives(t: &[u32; 2048], m: usize, bid: u32, offer: u32) -> bool
     requires { ⌜ (m < 256) × (1 ≤ getD (now t) (m * 8 + 4) 0) ⌝ }
     ensures { λ r. ⌜ r ≡ outlived (getD (now (t .entry)) (m * 8 + 7) 0) (getD (now (t .entry)) (m * 8 + 3) 0) (getD (now (t .entry)) (m * 8 + 4) 0) bid offer ⌝ }
 {
-    if t[m * 8 + 7] != 1 {
+    if t[m * 8 + Excuse::STANDS] != 1 {
         return false;
     }
-    !backs_away(t[m * 8 + 3], t[m * 8 + 4], bid, offer)
+    !backs_away(
+        t[m * 8 + Excuse::SIDE],
+        t[m * 8 + Excuse::PRICE],
+        bid,
+        offer,
+    )
 }
 
 // A quote ends the excuses that it backs away from. Orders whose excuse has ended leave the chain, so that no later quote or
@@ -111,7 +122,7 @@ fn quoted(t: &mut [u32; 2048], ch: &mut [u32; 512], n: usize, r: Rec)
             last = SentOrder::MOST + m;
             continue;
         }
-        t[m * 8 + 7] = 0;
+        t[m * 8 + Excuse::STANDS] = 0;
         ch[last] = next;
     }
 }
@@ -122,14 +133,14 @@ pub fn keep_excuses(t: &mut [u32; 2048], ch: &mut [u32; 512], n: usize, r: Rec) 
     requires { ⌜ Chains (now t) (now ch) n ⌝ }
     ensures { λ m. ⌜ ExcusesStep r (now (t .entry)) n (now (t .exit)) (now (ch .exit)) m ⌝ }
 {
-    if r.kind == Quote::KIND {
+    if r.kind == Rec::QUOTE {
         quoted(t, ch, n, r);
         return n;
     }
-    if r.kind == SentOrder::KIND {
+    if r.kind == Rec::SENT {
         return sent(t, ch, n, r);
     }
-    if r.kind == Response::KIND {
+    if r.kind == Rec::RESPONSE {
         answered(t, n, r);
         return n;
     }
@@ -141,13 +152,13 @@ fn still_excuses(t: &[u32; 2048], m: usize, side: u32, time: u32) -> bool
     requires { ⌜ m < 256 ⌝ }
     ensures { λ r. ⌜ r ≡ excusing (getD (now (t .entry)) (m * 8 + 3) 0) (getD (now (t .entry)) (m * 8 + 6) 0) (getD (now (t .entry)) (m * 8 + 7) 0) side time ⌝ }
 {
-    if t[m * 8 + 3] != side {
+    if t[m * 8 + Excuse::SIDE] != side {
         return false;
     }
-    if t[m * 8 + 7] != 1 {
+    if t[m * 8 + Excuse::STANDS] != 1 {
         return false;
     }
-    rows::wide(t[m * 8 + 6]) + SentOrder::EXCUSE_WAIT < rows::wide(time)
+    rows::wide(t[m * 8 + Excuse::TIME]) + Excuse::WAIT < rows::wide(time)
 }
 
 // "home had sent the sender an order in the series (sell for a bid, buy for an offer) more than 20,000 ms before the trade, and

@@ -1,15 +1,13 @@
 -- The i-th line of a trade: its words in the arrays are what its share says.
 use mathlib.Core.Path.{_≡_, refl, sym, ap, _∙_}
-use mathlib.Core.Bool.{Bool, true, false, _&&_, false≢true}
-use mathlib.Core.List.{List, [], _∷_, map, List·Memᴰ, List·Memᴰ·head, List·Memᴰ·tail, List·Memᴰ·not-nil, Memᴰ·map}
-use Prim.Native.Nat.{ℕ, zero, suc, _+_, _<_, _≤_}
+use mathlib.Core.List.{List, [], _∷_, List·Memᴰ, List·Memᴰ·head, List·Memᴰ·tail, List·Memᴰ·not-nil, Memᴰ·map}
+use Prim.Native.Nat.{ℕ, zero, suc, _<_}
 use native.Mathlib.Omega.{arith}
-use lib.ListN.{getD, length, take, length-map, List·getD-map}
+use lib.ListN.{getD, length, length-map, List·getD-map}
 use lib.Seq.{getD-take}
-use Rattle.rules.specs.Basics.{if_then_else_, all, keep}
 use Rattle.rules.specs.Due.{Line, Share}
-use Rattle.rules.proofs.Tests.{byTest, and-left, and-right, and-make, on-cons}
-use Rattle.sharing.specs.Lines.{Sound, Lined, linesIn, Gathered}
+use Rattle.rules.proofs.Tests.{on-cons}
+use Rattle.sharing.specs.Lines.{Sound, linesIn, Gathered}
 use Rattle.sharing.specs.Turns.{at, Served, shareAt, noLine, noShare}
 
 -- ---- a list of shares by its places

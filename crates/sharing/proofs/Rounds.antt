@@ -1,18 +1,18 @@
 -- A round of the definitions, by places: the line whose turn it is gets one contract; where every line is filled nothing changes;
 -- where all claims are due every line is filled.
-use mathlib.Core.Path.{_≡_, refl, sym, ap, _∙_, subst}
-use mathlib.Core.Bool.{Bool, true, false, not, _&&_, _||_, true≢false, false≢true}
+use mathlib.Core.Path.{_≡_, refl, ap, _∙_}
+use mathlib.Core.Bool.{Bool, true, false}
 use mathlib.Core.List.{List, [], _∷_, map, List·Memᴰ, List·Memᴰ·head, List·Memᴰ·tail, List·Memᴰ·not-nil}
 use Prim.Native.Nat.{ℕ, zero, suc, _+_, _*_, _<_, _≤_}
 use native.Mathlib.Omega.{arith}
-use lib.Dec.{leb, ltb}
+use lib.Dec.{leb}
 use lib.ListN.{length, set}
 use borrow.Author.Tests.{ltb-true, ltb-false, lt-ltb, le-ltb, leb-true, leb-false, le-leb}
-use Rattle.rules.specs.Basics.{if_then_else_, all, sum}
+use Rattle.rules.specs.Basics.{all, sum}
 use Rattle.rules.specs.Due.{Line, claimsOf, Share, unfilled}
-use Rattle.rules.specs.OwnSheet.{noLater, isNext, oneMore, atFirst, giveOne, give, empty}
+use Rattle.rules.specs.OwnSheet.{noLater, isNext, atFirst, giveOne, give, empty}
 use Rattle.rules.specs.SheetCheck.{fillsOf}
-use Rattle.rules.proofs.Tests.{byTest, and-left, and-right, and-make, when-true, when-make, all-at, all-make, on-cons}
+use Rattle.rules.proofs.Tests.{byTest, and-right, and-make, when-true, when-make, all-at, all-make, on-cons}
 use Rattle.rules.proofs.Giving.{After, kept, given, after, next-open, total, claims, Within}
 use Rattle.rules.proofs.OwnSheet.{rounds-give-as-many}
 use Rattle.sharing.specs.Lines.{linesIn}
@@ -21,38 +21,38 @@ use Rattle.sharing.proofs.Places.{member-at, by-places}
 
 -- ---- the first line that a test picks
 
-first-gets : (f : Share → Bool) (ss : List Share) (m : ℕ) → m < length ss → f (shareAt ss m) ≡ true → ((i : ℕ) → i < m → f (shareAt ss i) ≡ false)
+first-picked-gets-one : (f : Share → Bool) (ss : List Share) (m : ℕ) → m < length ss → f (shareAt ss m) ≡ true → ((i : ℕ) → i < m → f (shareAt ss i) ≡ false)
     → fillsOf (atFirst f ss) ≡ set (fillsOf ss) m (shareAt ss m .filled + 1)
 unfolding atFirst
-first-gets f [] m h e f-not = absurd (omega arith)
-first-gets f (a ∷ ss) zero h e f-not = rw e
-first-gets f (a ∷ ss) (suc m) h e f-not =
-    rw (f-not 0 (omega arith), first-gets f ss m (omega arith) e (λ i l. f-not (suc i) (omega arith)))
+first-picked-gets-one f [] m h e f-not = absurd (omega arith)
+first-picked-gets-one f (a ∷ ss) zero h e f-not = rw e
+first-picked-gets-one f (a ∷ ss) (suc m) h e f-not =
+    rw (f-not 0 (omega arith), first-picked-gets-one f ss m (omega arith) e (λ i l. f-not (suc i) (omega arith)))
 
-none-gets : (f : Share → Bool) (ss : List Share) → ((i : ℕ) → i < length ss → f (shareAt ss i) ≡ false) → atFirst f ss ≡ ss
+none-picked-keeps : (f : Share → Bool) (ss : List Share) → ((i : ℕ) → i < length ss → f (shareAt ss i) ≡ false) → atFirst f ss ≡ ss
 unfolding atFirst
-none-gets f [] f-not = refl
-none-gets f (a ∷ ss) f-not = rw (f-not 0 (omega arith), none-gets f ss (λ i l. f-not (suc i) (omega arith)))
+none-picked-keeps f [] f-not = refl
+none-picked-keeps f (a ∷ ss) f-not = rw (f-not 0 (omega arith), none-picked-keeps f ss (λ i l. f-not (suc i) (omega arith)))
 
 -- ---- the next line
 
 module _ (ss : List Share) (a : Share) where
-  is-next : a .filled < a .line .claim
+  least-is-next : a .filled < a .line .claim
       → ((i : ℕ) → i < length ss → shareAt ss i .filled < shareAt ss i .line .claim → (a .filled + 1) * shareAt ss i .line .customers ≤ (shareAt ss i .filled + 1) * a .line .customers)
       → isNext ss a ≡ true
   unfolding isNext noLater
-  is-next u f =
+  least-is-next u f =
       and-make (unfilled a) _ (lt-ltb _ _ u)
       (all-make (noLater a) ss (by-places (λ b. noLater a b ≡ true) ss (λ i h. when-make (unfilled (shareAt ss i)) _ (λ v. le-leb _ _ (f i h (ltb-true _ _ v))))))
 
-  not-next-filled : a .line .claim ≤ a .filled → isNext ss a ≡ false
+  filled-is-not-next : a .line .claim ≤ a .filled → isNext ss a ≡ false
   unfolding isNext
-  not-next-filled h = rw (le-ltb (a .filled) (a .line .claim) h)
+  filled-is-not-next h = rw (le-ltb (a .filled) (a .line .claim) h)
 
-  not-next-later : (i : ℕ) → i < length ss → shareAt ss i .filled < shareAt ss i .line .claim
+  later-is-not-next : (i : ℕ) → i < length ss → shareAt ss i .filled < shareAt ss i .line .claim
       → (shareAt ss i .filled + 1) * a .line .customers < (a .filled + 1) * shareAt ss i .line .customers → isNext ss a ≡ false
   unfolding isNext noLater
-  not-next-later i h u lt =
+  later-is-not-next i h u lt =
       byTest (isNext ss a)
       (λ e.
       let z : (a .filled + 1) * shareAt ss i .line .customers ≤ (shareAt ss i .filled + 1) * a .line .customers =
@@ -67,14 +67,14 @@ module _ (ss : List Share) where
       → fillsOf (giveOne ss) ≡ set (fillsOf ss) m (shareAt ss m .filled + 1)
   unfolding giveOne
   round-gives m h u f g =
-      first-gets (isNext ss) ss m h (is-next ss (shareAt ss m) u f)
+      first-picked-gets-one (isNext ss) ss m h (least-is-next ss (shareAt ss m) u f)
       (λ i l. byTest (unfilled (shareAt ss i))
-      (λ e. not-next-later ss (shareAt ss i) m h u (g i l (ltb-true _ _ e)))
-      (λ e. not-next-filled ss (shareAt ss i) (ltb-false _ _ e)))
+      (λ e. later-is-not-next ss (shareAt ss i) m h u (g i l (ltb-true _ _ e)))
+      (λ e. filled-is-not-next ss (shareAt ss i) (ltb-false _ _ e)))
 
   pub round-over : ((i : ℕ) → i < length ss → shareAt ss i .line .claim ≤ shareAt ss i .filled) → giveOne ss ≡ ss
   unfolding giveOne
-  round-over f = none-gets (isNext ss) ss (λ i h. not-next-filled ss (shareAt ss i) (f i h))
+  round-over f = none-picked-keeps (isNext ss) ss (λ i h. filled-is-not-next ss (shareAt ss i) (f i h))
 
 -- once a round changes nothing, no later one does
 pub rounds-over : (due n : ℕ) (ss : List Share) → n ≤ due → giveOne (give n ss) ≡ give n ss → give due ss ≡ give n ss
@@ -100,7 +100,7 @@ pub empty-keeps-lines : (ls : List Line) → linesIn (map empty ls) ≡ ls
 empty-keeps-lines [] = refl
 empty-keeps-lines (l ∷ ls) = rw (empty-keeps-lines ls)
 
-give-keeps-lines : (n : ℕ) (ls : List Line) → linesIn (give n (map empty ls)) ≡ ls
+pub give-keeps-lines : (n : ℕ) (ls : List Line) → linesIn (give n (map empty ls)) ≡ ls
 unfolding give
 give-keeps-lines zero ls = empty-keeps-lines ls
 give-keeps-lines (suc n) ls = round-keeps-lines (give n (map empty ls)) ∙ give-keeps-lines n ls

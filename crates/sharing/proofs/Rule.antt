@@ -1,18 +1,18 @@
 -- The share rule over the words: a pair that breaks it, and the pairs passed by the two loops.
-use mathlib.Core.Path.{_≡_, refl, sym, ap, _∙_}
-use mathlib.Core.Bool.{Bool, true, false, not, _&&_, _||_, true≢false, false≢true}
-use mathlib.Core.List.{List, [], _∷_, List·Memᴰ}
+use mathlib.Core.Path.{_≡_, refl, sym, _∙_}
+use mathlib.Core.Bool.{Bool, true, false, not, true≢false}
+use mathlib.Core.List.{List, [], _∷_}
 use Prim.Native.Nat.{ℕ, zero, suc, _+_, _*_, _<_, _≤_}
 use native.Mathlib.Nat.{zero-mul}
 use native.Mathlib.Omega.{arith}
 use lib.Dec.{eqb, ltb, leb}
 use lib.ListN.{length}
 use borrow.Author.Count.{below-more}
-use borrow.Author.Tests.{lt-ltb, le-ltb, le-leb, lt-leb, leb-true, leb-false, ltb-true, ltb-false, not-true, not-false, eqb-true, eqb-false}
-use Rattle.rules.specs.Basics.{if_then_else_, _==_, all, keep}
-use Rattle.rules.specs.Due.{Share, unfilled, fair, shareRule}
-use Rattle.rules.proofs.Tests.{byTest, and-left, and-right, all-at}
-use Rattle.rules.proofs.Giving.{Fair, fair-says, says-fair, FairAll}
+use borrow.Author.Tests.{lt-ltb, le-ltb, leb-true, leb-false, not-true, not-false, eqb-true, eqb-false}
+use Rattle.rules.specs.Basics.{_==_, all, keep}
+use Rattle.rules.specs.Due.{Share, fair, shareRule}
+use Rattle.rules.proofs.Tests.{byTest, and-left, and-right}
+use Rattle.rules.proofs.Giving.{Fair, fair-says, says-fair}
 use Rattle.rules.proofs.OwnSheet.{fair-shares-keep-the-rule}
 use Rattle.sharing.specs.Lines.{Gathered, WithinClaims, RuleAnswered}
 use Rattle.sharing.specs.Turns.{at, Breaks, shareAt, FairSoFar}
@@ -39,21 +39,21 @@ pub ruleset breaks-laws = (filled-breaks-nothing, unfilled-breaks, words-product
 
 -- ---- a pair that breaks the rule, found among the lines with reason 0
 
-kept-all : (f p : Share → Bool) (ss : List Share) → all f (keep p ss) ≡ true → (i : ℕ) → i < length ss → p (shareAt ss i) ≡ true → f (shareAt ss i) ≡ true
+kept-all-at : (f p : Share → Bool) (ss : List Share) → all f (keep p ss) ≡ true → (i : ℕ) → i < length ss → p (shareAt ss i) ≡ true → f (shareAt ss i) ≡ true
 unfolding all keep
-kept-all f p [] e i h t = absurd (omega arith)
-kept-all f p (a ∷ ss) e zero h t = and-left (f a) (all f (keep p ss)) (rw t at e)
-kept-all f p (a ∷ ss) e (suc i) h t =
+kept-all-at f p [] e i h t = absurd (omega arith)
+kept-all-at f p (a ∷ ss) e zero h t = and-left (f a) (all f (keep p ss)) (rw t at e)
+kept-all-at f p (a ∷ ss) e (suc i) h t =
     byTest (p a)
-    (λ q. kept-all f p ss (and-right (f a) (all f (keep p ss)) (rw q at e)) i (omega arith) t)
-    (λ q. kept-all f p ss (rw q at e) i (omega arith) t)
+    (λ q. kept-all-at f p ss (and-right (f a) (all f (keep p ss)) (rw q at e)) i (omega arith) t)
+    (λ q. kept-all-at f p ss (rw q at e) i (omega arith) t)
 
 rule-says-fair : (ss : List Share) → shareRule ss ≡ true → (i j : ℕ) → i < length ss → j < length ss
     → (shareAt ss i .line .reason == 0) ≡ true → (shareAt ss j .line .reason == 0) ≡ true → fair (shareAt ss i) (shareAt ss j) ≡ true
 unfolding shareRule
 rule-says-fair ss e i j hi hj ri rj =
     let ours : Share → Bool = λ a. a .line .reason == 0 in
-    kept-all (fair (shareAt ss i)) ours ss (kept-all (λ a. all (fair a) (keep ours ss)) ours ss e i hi ri) j hj rj
+    kept-all-at (fair (shareAt ss i)) ours ss (kept-all-at (λ a. all (fair a) (keep ours ss)) ours ss e i hi ri) j hj rj
 
 module _ (claim customers fill : List ℕ) (k : ℕ) (ss : List Share) (g : Gathered ss claim customers fill k) (w : WithinClaims ss) where
   many : k ≡ length ss
@@ -95,9 +95,9 @@ module _ (claim customers fill : List ℕ) (k : ℕ) (ss : List Share) (g : Gath
 -- ---- the two loops
 
 module _ (claim customers fill : List ℕ) (k : ℕ) where
-  pair-is : (i j : ℕ) (broken : Bool) → i < k → j < k → Breaks (at fill i) (at claim i) (at customers i) (at fill j) (at customers j) broken
+  pair-broken-is-unfair : (i j : ℕ) (broken : Bool) → i < k → j < k → Breaks (at fill i) (at claim i) (at customers i) (at fill j) (at customers j) broken
       → (ss : List Share) → Gathered ss claim customers fill k → broken ≡ not (fair (shareAt ss i) (shareAt ss j))
-  pair-is i j broken hi hj b ss g =
+  pair-broken-is-unfair i j broken hi hj b ss g =
       b .is (shareAt ss i) (shareAt ss j) (sym (fill-at ss claim customers fill k g i hi)) (sym (claim-at ss claim customers fill k g i hi))
       (sym (customers-at ss claim customers fill k g i hi)) (sym (fill-at ss claim customers fill k g j hj)) (sym (customers-at ss claim customers fill k g j hj))
 
@@ -126,7 +126,7 @@ module _ (claim customers fill : List ℕ) (k : ℕ) where
           record {
             still = f .still;
             lines = f .lines;
-            line = λ ss g. below-more (λ x. fair (shareAt ss i) (shareAt ss x) ≡ true) j (f .line ss g) (not-false _ (sym (pair-is i j broken hi hj b ss g) ∙ e));
+            line = λ ss g. below-more (λ x. fair (shareAt ss i) (shareAt ss x) ≡ true) j (f .line ss g) (not-false _ (sym (pair-broken-is-unfair i j broken hi hj b ss g) ∙ e));
             low = f .low;
             others-low = omega arith;
           }
@@ -134,7 +134,7 @@ module _ (claim customers fill : List ℕ) (k : ℕ) where
       pub pair-breaks : broken ≡ true → RuleAnswered claim customers fill k false
       pair-breaks e =
           record {
-            is = λ ss g w. sym (unfair-rule-broken claim customers fill k ss g w i j hi hj (not-true _ (sym (pair-is i j broken hi hj b ss g) ∙ e)));
+            is = λ ss g w. sym (unfair-rule-broken claim customers fill k ss g w i j hi hj (not-true _ (sym (pair-broken-is-unfair i j broken hi hj b ss g) ∙ e)));
           }
 
   pub all-fair : (i : ℕ) (kept : Bool) → FairSoFar claim customers fill k i 0 kept → k ≤ i → RuleAnswered claim customers fill k kept

@@ -1,7 +1,7 @@
 -- What the code gives out is what the definitions give: the turn found is the round's, and every way out of the giving leaves the shares of our own sheet.
 use mathlib.Core.Path.{_≡_, refl, sym, ap, _∙_, subst}
 use mathlib.Core.List.{List, [], _∷_, map}
-use Prim.Native.Nat.{ℕ, zero, suc, _+_, _*_, _<_, _≤_}
+use Prim.Native.Nat.{ℕ, zero, suc, _+_, _<_, _≤_}
 use native.Mathlib.Numerals.{add-one}
 use native.Mathlib.Omega.{arith}
 use lib.ListN.{length, take, set, replicate}
@@ -11,7 +11,7 @@ use Rattle.rules.specs.Due.{Line, claimsOf, Share}
 use Rattle.rules.specs.OwnSheet.{giveOne, give, empty}
 use Rattle.rules.specs.SheetCheck.{fillsOf}
 use Rattle.sharing.specs.declared.Turn.{Turn}
-use Rattle.sharing.specs.Lines.{Lined, linesIn, Gathered, SharedOut}
+use Rattle.sharing.specs.Lines.{Lined, Gathered, SharedOut}
 use Rattle.sharing.specs.Turns.{at, Least, Nobody, Found, nobody, least, Scanning, NextTurn, Given, Giving, Copied, shareAt}
 use Rattle.sharing.proofs.Turns.{scanning-none, scanning-more}
 use Rattle.sharing.proofs.Places.{gathered-many, fill-at, claim-at, customers-at, gathered-served}

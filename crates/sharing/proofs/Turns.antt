@@ -1,12 +1,12 @@
 -- Whose turn it is, over the words: the scan of the lines finds the unfilled one with the least (fill + 1) per customer contract, the earliest on a tie.
-use mathlib.Core.Path.{_≡_, refl, sym, ap, _∙_, subst}
-use mathlib.Core.Bool.{Bool, true, false, _&&_}
+use mathlib.Core.Path.{_≡_, refl, subst}
+use mathlib.Core.Bool.{_&&_}
 use mathlib.Core.List.{List}
 use Prim.Native.Nat.{ℕ, _+_, _*_, _<_, _≤_}
 use native.Mathlib.Nat.{mul-right-comm, mul-le-mul-right, mul-lt-mul-of-pos-right, lt-of-mul-lt-mul-right, mul-zero, one-mul, le-of-lt}
 use native.Mathlib.Omega.{arith}
-use lib.Dec.{eqb, ltb}
-use borrow.Author.Tests.{ltb-true, ltb-false, lt-ltb, le-ltb, eqb-true, eqb-false}
+use lib.Dec.{ltb}
+use borrow.Author.Tests.{ltb-true, ltb-false, lt-ltb, le-ltb}
 use borrow.Author.Count.{below-more}
 use Rattle.rules.proofs.Tests.{byTest}
 use Rattle.sharing.specs.declared.Turn.{Turn}
@@ -51,30 +51,26 @@ fractions-less x c y d z e p h k =
 
 module _ (claim customers fill : List ℕ) (k : ℕ) where
   module _ (i : ℕ) (t : Turn) where
-    -- what holds below i, and at i, holds below i + 1
-    to-next : (P : ℕ → Type 0) → ((j : ℕ) → j < i → P j) → P i → (j : ℕ) → j < i + 1 → P j
-    to-next P f p = below-more P i f p
-
-    filled-passed : at claim i ≤ at fill i → Found claim customers fill k i t → Found claim customers fill k (i + 1) t
-    filled-passed h (nobody n) = nobody (record { filled = to-next (λ j. at claim j ≤ at fill j) (n .filled) h; is = n .is })
-    filled-passed h (least l) =
+    filled-line-passed : at claim i ≤ at fill i → Found claim customers fill k i t → Found claim customers fill k (i + 1) t
+    filled-line-passed h (nobody n) = nobody (record { filled = below-more (λ j. at claim j ≤ at fill j) i (n .filled) h; is = n .is })
+    filled-line-passed h (least l) =
         least (record {
           here = omega (arith, l .here);
           unfilled = l .unfilled;
           one-more = l .one-more;
           own = l .own;
-          least = to-next (λ j. at fill j < at claim j → t .fill * at customers j ≤ (at fill j + 1) * t .customers) (l .least) (λ u. absurd (omega arith));
+          least = below-more (λ j. at fill j < at claim j → t .fill * at customers j ≤ (at fill j + 1) * t .customers) i (l .least) (λ u. absurd (omega arith));
           earliest = l .earliest;
         })
 
-    open-passed : at fill i < at claim i → t .fill * at customers i ≤ (at fill i + 1) * t .customers → Least claim customers fill i t → Least claim customers fill (i + 1) t
-    open-passed u h l =
+    later-line-passed : at fill i < at claim i → t .fill * at customers i ≤ (at fill i + 1) * t .customers → Least claim customers fill i t → Least claim customers fill (i + 1) t
+    later-line-passed u h l =
         record {
           here = omega (arith, l .here);
           unfilled = l .unfilled;
           one-more = l .one-more;
           own = l .own;
-          least = to-next (λ j. at fill j < at claim j → t .fill * at customers j ≤ (at fill j + 1) * t .customers) (l .least) (λ v. h);
+          least = below-more (λ j. at fill j < at claim j → t .fill * at customers j ≤ (at fill j + 1) * t .customers) i (l .least) (λ v. h);
           earliest = l .earliest;
         }
 
@@ -82,38 +78,38 @@ module _ (claim customers fill : List ℕ) (k : ℕ) where
     turn = record { line = i; fill = at fill i + 1; customers = at customers i }
 
     -- line i's turn comes before that of every line below it
-    taken : at fill i < at claim i → ((j : ℕ) → j < i → at fill j < at claim j → (at fill i + 1) * at customers j < (at fill j + 1) * at customers i)
+    first-turn-is-least : at fill i < at claim i → ((j : ℕ) → j < i → at fill j < at claim j → (at fill i + 1) * at customers j < (at fill j + 1) * at customers i)
         → Least claim customers fill (i + 1) turn
     unfolding turn
-    taken u f =
+    first-turn-is-least u f =
         record {
           here = omega arith;
           unfilled = u;
           one-more = refl;
           own = refl;
-          least = to-next (λ j. at fill j < at claim j → (at fill i + 1) * at customers j ≤ (at fill j + 1) * at customers i) (λ j h v. le-of-lt (f j h v)) (λ v. omega arith);
+          least = below-more (λ j. at fill j < at claim j → (at fill i + 1) * at customers j ≤ (at fill j + 1) * at customers i) i (λ j h v. le-of-lt (f j h v)) (λ v. omega arith);
           earliest = f;
         }
 
     module _ (served : Served claim customers k) (low : i < k) (u : at fill i < at claim i) where
-      open-first : Nobody claim fill k i t → Found claim customers fill k (i + 1) (soonerOf t i (at fill i) (at claim i) (at customers i))
-      open-first n =
+      first-open-line-found : Nobody claim fill k i t → Found claim customers fill k (i + 1) (soonerOf t i (at fill i) (at claim i) (at customers i))
+      first-open-line-found n =
           let z : (at fill i + 1) * t .customers < t .fill * at customers i =
           rw (n .is, mul-zero (at fill i + 1), one-mul (at customers i)) (omega (arith, served i low)) in
           subst (Found claim customers fill k (i + 1)) (turn-taken t i (at fill i) (at claim i) (at customers i) u z)
-          (least (unfold turn in taken u (λ j h v. absurd (omega (arith, n .filled j h)))))
+          (least (unfold turn in first-turn-is-least u (λ j h v. absurd (omega (arith, n .filled j h)))))
 
-      open-later : Least claim customers fill i t → Found claim customers fill k (i + 1) (soonerOf t i (at fill i) (at claim i) (at customers i))
-      open-later l =
+      later-open-line-found : Least claim customers fill i t → Found claim customers fill k (i + 1) (soonerOf t i (at fill i) (at claim i) (at customers i))
+      later-open-line-found l =
           byTest (ltb ((at fill i + 1) * t .customers) (t .fill * at customers i))
           (λ e.
           let z = ltb-true _ _ e in
           subst (Found claim customers fill k (i + 1)) (turn-taken t i (at fill i) (at claim i) (at customers i) u z)
-          (least (unfold turn in taken u (λ j h v.
+          (least (unfold turn in first-turn-is-least u (λ j h v.
           fractions-less (at fill i + 1) (at customers i) (t .fill) (t .customers) (at fill j + 1) (at customers j) (omega (arith, served j (omega arith))) z (l .least j h v)))))
           (λ e.
           let z = ltb-false _ _ e in
-          subst (Found claim customers fill k (i + 1)) (turn-kept t i (at fill i) (at claim i) (at customers i) u z) (least (open-passed u z l)))
+          subst (Found claim customers fill k (i + 1)) (turn-kept t i (at fill i) (at claim i) (at customers i) u z) (least (later-line-passed u z l)))
 
     found-more : Served claim customers k → i < k → Found claim customers fill k i t
         → Found claim customers fill k (i + 1) (soonerOf t i (at fill i) (at claim i) (at customers i))
@@ -122,11 +118,11 @@ module _ (claim customers fill : List ℕ) (k : ℕ) where
         (λ e. unfilled-line (ltb-true _ _ e) f)
         (λ e.
         let z = ltb-false _ _ e in
-        subst (Found claim customers fill k (i + 1)) (sooner-filled t i (at fill i) (at claim i) (at customers i) z) (filled-passed z f))
+        subst (Found claim customers fill k (i + 1)) (sooner-filled t i (at fill i) (at claim i) (at customers i) z) (filled-line-passed z f))
       where
         unfilled-line : at fill i < at claim i → Found claim customers fill k i t → Found claim customers fill k (i + 1) (soonerOf t i (at fill i) (at claim i) (at customers i))
-        unfilled-line u (nobody n) = open-first served low u n
-        unfilled-line u (least l) = open-later served low u l
+        unfilled-line u (nobody n) = first-open-line-found served low u n
+        unfilled-line u (least l) = later-open-line-found served low u l
 
     sooner-low : t .line ≤ k → i < k → (fill′ claim′ customers′ : ℕ) → soonerOf t i fill′ claim′ customers′ .line ≤ k
     unfolding soonerOf

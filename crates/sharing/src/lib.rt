@@ -80,6 +80,7 @@ fn next_turn(claim: &[u32; 8], customers: &[u32; 8], fill: &[u32; 8], k: usize) 
     turn
 }
 
+// The first k words of another array; the others stay.
 fn copy_first(from: &[u32], k: usize, to: &mut [u32])
     requires { ⌜ (k ≤ length (now from)) × (k ≤ length (now to)) ⌝ }
     ensures { λ _. ⌜ Copied (now (from .entry)) k (now (to .entry)) (now (to .exit)) ⌝ }

@@ -1,16 +1,16 @@
 -- Laws of writing into lent memory: nothing, one byte, a text, one thing after another; and from there to the definitions of all or nothing.
-use Prim.Native.Nat.{ℕ, zero, suc, _+_, _-_, _^_, _≤_, _<_}
+use Prim.Native.Nat.{ℕ, _+_, _^_, _≤_, _<_}
 use mir.Val.{Fits}
 use mir.Syntax.{w64}
 use native.Mathlib.Omega.{arith}
 use native.Mathlib.Numerals.{add-one}
 use native.Mathlib.Nat.{add-zero, zero-add}
-use mathlib.Core.Path.{_≡_, refl, sym, ap, subst, _∙_}
+use mathlib.Core.Path.{_≡_, sym, ap, subst, _∙_}
 use mathlib.Core.List.{List, [], _∷_, _++_, append-assoc, append-nil}
 use lib.ListN.{length, getD, take, drop, set, length-append, length-drop, length-set, take-append-drop}
-use lib.Seq.{take-at, drop-at, drop-drop, drop-cons, length-take-le, set-split, append-snoc, take-suc, take-all, take-set-le, drop-set-lt, getD-set-same}
+use lib.Seq.{take-at, drop-at, drop-drop, length-take-le, set-split, append-snoc, take-suc, take-all}
 use borrow.Author.Tests.{le-leb, lt-leb}
-use Rattle.rules.specs.Basics.{Answer, ok, refused, _>>=_, demand}
+use Rattle.rules.specs.Basics.{ok, refused, _>>=_, demand}
 use Rattle.rules.specs.Refusals.{outputTooShort}
 use Rattle.rules.specs.Writing.{noPlace, into, lentAfter}
 use Rattle.rules.proofs.Answers.{demand-met, demand-missed}
@@ -68,25 +68,32 @@ wrote-then s at a d p b e q v w =
       place = rw length-append (omega (arith, v .place, w .place));
     }
 
--- the same bytes under another name
-pub wrote-same : (s : List ℕ) (at : ℕ) (a b d : List ℕ) (p : ℕ) → a ≡ b → Wrote s at a d p → Wrote s at b d p
-wrote-same s at a b d p e w = subst (λ l. Wrote s at l d p) e w
+pub two-index : (s : List ℕ) (at a : ℕ) → at + 1 < length s → at + 1 < length (set s at a)
+two-index s at a h = rw length-set h
 
--- a byte, and then what stands before it
-pub wrote-before : (s : List ℕ) (at : ℕ) (a : List ℕ) (b : ℕ) (d : List ℕ) (p : ℕ) → p < length s → Wrote (set s p b) at a d p → Wrote s at (a ++ (b ∷ [])) d (p + 1)
-unfolding lentWith
-wrote-before s at a b d p h w =
-    let q : p ≡ at + length a = w .place in
-    let l : p < length (set s p b) = rw length-set h in
-    let t : take at (set s p b) ≡ take at s = take-set-le at s p b (omega arith) in
-    let r : drop (at + length a) (set s p b) ≡ b ∷ drop (at + length a + 1) s =
-    rw (← q, add-one p) (drop-cons (set s p b) p 0 l ∙ rw (getD-set-same s p b 0 h, drop-set-lt (suc p) s p b (omega arith))) in
-    let e : at + length (a ++ (b ∷ [])) ≡ at + length a + 1 = rw length-append (omega arith) in
-    record {
-      room = rw e (omega arith);
-      lent = w .lent ∙ rw (t, r, e, ← append-assoc (take at s) a (b ∷ []), append-snoc);
-      place = rw e (omega arith);
-    }
+pub wrote-two : (s : List ℕ) (at a b : ℕ) → at + 1 < length s → Wrote s at (a ∷ b ∷ []) (set (set s at a) (at + 1) b) (at + 2)
+wrote-two s at a b h =
+    let p : at + 1 + 1 ≡ at + 2 = omega arith in
+    rw p at
+    (wrote-then s at (a ∷ []) (set s at a) (at + 1) (b ∷ []) (set (set s at a) (at + 1) b) (at + 1 + 1)
+    (wrote-one s at a (omega arith))
+    (wrote-one (set s at a) (at + 1) b (two-index s at a h)))
+
+-- ---- a whole of two parts
+
+module _ (whole a b s : List ℕ) (at : ℕ) (room : at + length whole ≤ length s) (parts : whole ≡ a ++ b) where
+  length-parts : length whole ≡ length a + length b
+  length-parts = rw (parts, length-append)
+
+  pub first-room : at + length a ≤ length s
+  first-room = omega (arith, length-parts)
+
+  module _ (d : List ℕ) (p : ℕ) (w : Wrote s at a d p) where
+    pub second-room : p + length b ≤ length d
+    second-room = omega (arith, length-parts, w .place, wrote-length s at a d p w)
+
+    pub both-wrote : (e : List ℕ) (q : ℕ) → Wrote d p b e q → Wrote s at whole e q
+    both-wrote e q v = rw parts (wrote-then s at a d p b e q w v)
 
 -- ---- a text: i bytes of it are written
 
@@ -159,12 +166,12 @@ module _ (s bytes : List ℕ) where
 
 pub ruleset writes-laws = (writes-short, writes-room, writes-all)
 
-answers-differ : (a b : Written) → asAnswer a ≡ asAnswer b → a ≡ b
-answers-differ (To m) (To n) e = cc
-answers-differ (Refused m) (Refused n) e = cc
-answers-differ (To m) (Refused n) e = cc
-answers-differ (Refused m) (To n) e = cc
+same-answer-same-written : (a b : Written) → asAnswer a ≡ asAnswer b → a ≡ b
+same-answer-same-written (To m) (To n) e = cc
+same-answer-same-written (Refused m) (Refused n) e = cc
+same-answer-same-written (To m) (Refused n) e = cc
+same-answer-same-written (Refused m) (To n) e = cc
 
 -- there is one answer, and one lent memory afterwards
 pub writes-settled : (s bytes : List ℕ) (r₁ r₂ : Written) (d₁ d₂ : List ℕ) → Writes s bytes r₁ d₁ → Writes s bytes r₂ d₂ → (r₁ ≡ r₂) × (d₁ ≡ d₂)
-writes-settled s bytes r₁ r₂ d₁ d₂ v w = (answers-differ r₁ r₂ (v .answer ∙ sym (w .answer)), v .lent ∙ sym (w .lent))
+writes-settled s bytes r₁ r₂ d₁ d₂ v w = (same-answer-same-written r₁ r₂ (v .answer ∙ sym (w .answer)), v .lent ∙ sym (w .lent))

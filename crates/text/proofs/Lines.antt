@@ -1,60 +1,32 @@
 -- Laws of printed lines: each is its parts one after another, has room where its parts have, and is what the definitions print.
-use Prim.Native.Nat.{ℕ, _+_, _-_, _^_, _≤_, _<_}
-use Prim.Native.String.{String}
-use mir.Val.{Fits}
-use mir.Syntax.{w64}
+use Prim.Native.Nat.{ℕ, _+_, _≤_, _<_}
+use Prim.Native.Char.{Char, code}
+use Prim.Native.String.{[] as []ₛ, _∷_ as _∷ₛ_}
 use native.Mathlib.Omega.{arith}
-use mathlib.Core.Path.{_≡_, refl, sym, ap, _∙_}
-use mathlib.Core.List.{List, [], _∷_, _++_, append-assoc}
+use mathlib.Core.Path.{_≡_, refl, ap}
+use mathlib.Core.List.{List, [], _∷_, _++_, map, append-assoc}
 use lib.ListN.{length, set, length-append, length-set}
-use Rattle.rules.specs.PrintedDay.{ascii, decimal, space, ended, printedLine, firstLine, refusalText}
-use Rattle.rules.specs.Verdicts.{verdict}
+use Rattle.rules.specs.PrintedDay.{ascii, decimal, Printed, printedLine, firstLine, refusalText}
 use Rattle.text.specs.Lent.{Wrote, Takes}
 use Rattle.text.specs.Lines.{lineOf, fieldOf, headOf, tailOf, firstLineBytes, refusedBytes, atBytes, numberOf, placeOf}
-use Rattle.text.proofs.Lent.{wrote-length, wrote-set-length, wrote-one, wrote-then}
+use Rattle.text.proofs.Lent.{wrote-length, wrote-set-length, wrote-one, wrote-two, two-index, wrote-then, first-room, second-room, both-wrote}
 
 -- ---- the letter: a byte in code, a text in the definitions
 
-pub line-is-printed : (event what a b c : ℕ) (letter : String) → ascii letter ≡ what ∷ []
-    → lineOf event what a b c ≡ printedLine (record { event = event; what = letter; says = verdict a b c })
+pub letter-byte : (c : Char) → ascii (c ∷ₛ []ₛ) ≡ code c ∷ []
+unfolding ascii
+letter-byte c = refl
+
+pub line-is-printed : (q : Printed) (what : ℕ) → ascii (q .what) ≡ what ∷ []
+    → lineOf (q .event) what (q .says .a) (q .says .b) (q .says .c) ≡ printedLine q
 unfolding lineOf printedLine
-line-is-printed event what a b c letter e = rw e
+line-is-printed q what e = rw e
 
-pub letter-Q : ascii "Q" ≡ 81 ∷ []
-unfolding ascii
-letter-Q = refl
+-- the bytes that `What` has in code
+letters-in-code : map code ("Q" ∷ "S" ∷ "R" ∷ "T" ∷ "F" ∷ []) ≡ 81 ∷ 83 ∷ 82 ∷ 84 ∷ 70 ∷ []
+letters-in-code = refl
 
-pub letter-S : ascii "S" ≡ 83 ∷ []
-unfolding ascii
-letter-S = refl
-
-pub letter-R : ascii "R" ≡ 82 ∷ []
-unfolding ascii
-letter-R = refl
-
-pub letter-T : ascii "T" ≡ 84 ∷ []
-unfolding ascii
-letter-T = refl
-
-pub letter-F : ascii "F" ≡ 70 ∷ []
-unfolding ascii
-letter-F = refl
-
--- ---- a whole of two parts
-
-module _ (whole a b s : List ℕ) (at : ℕ) (room : at + length whole ≤ length s) (parts : whole ≡ a ++ b) where
-  length-parts : length whole ≡ length a + length b
-  length-parts = rw (parts, length-append)
-
-  first-room : at + length a ≤ length s
-  first-room = omega (arith, length-parts)
-
-  module _ (d : List ℕ) (p : ℕ) (w : Wrote s at a d p) where
-    pub second-room : p + length b ≤ length d
-    second-room = omega (arith, length-parts, w .place, wrote-length s at a d p w)
-
-    pub both-wrote : (e : List ℕ) (q : ℕ) → Wrote d p b e q → Wrote s at whole e q
-    both-wrote e q v = rw parts (wrote-then s at a d p b e q w v)
+-- ---- a line and its parts
 
 pub line-parts : (event what a b c : ℕ) → lineOf event what a b c ≡ headOf event what ++ tailOf a b c
 unfolding lineOf headOf tailOf fieldOf
@@ -117,15 +89,11 @@ module _ (event what : ℕ) (s : List ℕ) (at : ℕ) (room : at + length (headO
     space-index = omega (arith, letter-room)
 
     pub letter-index : p + 1 < length (set d p 32)
-    letter-index = rw length-set letter-room
+    letter-index = two-index d p 32 letter-room
 
     pub head-wrote : Wrote s at (headOf event what) (set (set d p 32) (p + 1) what) (p + 2)
     unfolding headOf
-    head-wrote =
-        let one = wrote-one d p 32 space-index in
-        let two = wrote-one (set d p 32) (p + 1) what letter-index in
-        let q : p + 1 + 1 ≡ p + 2 = omega arith in
-        rw q at (wrote-then s at (decimal event) d p (32 ∷ what ∷ []) (set (set d p 32) (p + 1) what) (p + 1 + 1) w (wrote-then d p (32 ∷ []) (set d p 32) (p + 1) (what ∷ []) _ (p + 1 + 1) one two))
+    head-wrote = wrote-then s at (decimal event) d p (32 ∷ what ∷ []) _ (p + 2) w (wrote-two d p 32 what letter-room)
 
 pub ruleset head-laws = (event-room, space-index, letter-index, head-wrote, wrote-length)
 

@@ -1,7 +1,11 @@
--- The lines of the printed day and of a refusal in the parts that are written one after another.
-use Prim.Native.Nat.{ℕ}
+-- Numbers, the lines of the printed day and refusals in the parts that are written one after another.
+use Prim.Native.Nat.{ℕ, _+_, _/_, _%_}
 use mathlib.Core.List.{List, [], _∷_, _++_}
 use Rattle.rules.specs.PrintedDay.{decimal, space, ended}
+
+-- two digits
+unfoldable pub pairOf : ℕ → List ℕ
+pairOf x = (48 + x / 10) ∷ (48 + x % 10) ∷ []
 
 -- a printed line, its letter given as a byte
 unfoldable pub lineOf : ℕ → ℕ → ℕ → ℕ → ℕ → List ℕ

@@ -4,7 +4,7 @@ ghost use Prim.Native.Nat.{_+_, _^_, _≤_, _<_};
 ghost use lib.ListN.{length};
 ghost use Rattle.rules.specs.PrintedDay.{decimal, firstLine, refusalText};
 ghost use Rattle.text.specs.Lent.{Wrote, Takes, Writes};
-ghost use Rattle.text.specs.Lines.{lineOf, fieldOf, headOf, tailOf, numberOf, placeOf};
+ghost use Rattle.text.specs.Lines.{pairOf, lineOf, fieldOf, headOf, tailOf, numberOf, placeOf};
 use rows::Refusal;
 
 // What a writer answers: how many bytes it wrote, or a refusal's number.
@@ -90,25 +90,52 @@ pub fn total_width(x: u64) -> usize
     width_to_ten(x / 10000000000) + 10
 }
 
-// The digits of x in the places left from `at` on, the last digit first.
-fn put_digits(out: &mut [u8], at: usize, left: usize, x: u64)
-    requires { ⌜ (left ≡ length (decimal x)) × (at + left ≤ length (now out)) ⌝ }
-    ensures { λ _. ⌜ Wrote (now (out .entry)) at (decimal x) (now (out .exit)) (at + left) ⌝ }
+// Two digits of x, which is below a hundred.
+fn put_pair(out: &mut [u8], at: usize, x: u64) -> usize
+    requires { ⌜ (x < 100) × (at + length (pairOf x) ≤ length (now out)) ⌝ }
+    ensures { λ r. ⌜ Wrote (now (out .entry)) at (pairOf x) (now (out .exit)) r ⌝ }
 {
-    out[at + (left - 1)] = (48 + x % 10) as u8;
-    if x < 10 {
-        return;
-    }
-    put_digits(out, at, left - 1, x / 10);
+    out[at] = (48 + x / 10) as u8;
+    out[at + 1] = (48 + x % 10) as u8;
+    at + 2
 }
 
+fn put_short(out: &mut [u8], at: usize, x: u64) -> usize
+    requires { ⌜ (x < 100) × (at + length (decimal x) ≤ length (now out)) ⌝ }
+    ensures { λ r. ⌜ Wrote (now (out .entry)) at (decimal x) (now (out .exit)) r ⌝ }
+{
+    if x < 10 {
+        out[at] = (48 + x) as u8;
+        return at + 1;
+    }
+    put_pair(out, at, x)
+}
+
+// The digits before the last two, and then those two.
+fn put_digits(out: &mut [u8], at: usize, x: u64) -> usize
+    requires { ⌜ at + length (decimal x) ≤ length (now out) ⌝ }
+    ensures { λ r. ⌜ Wrote (now (out .entry)) at (decimal x) (now (out .exit)) r ⌝ }
+{
+    if x < 100 {
+        return put_short(out, at, x);
+    }
+    let p = put_digits(out, at, x / 100);
+    put_pair(out, p, x % 100)
+}
+
+// Most numbers of a day have at most four digits: those are written without the recursion.
 pub fn put_total(out: &mut [u8], at: usize, x: u64) -> usize
     requires { ⌜ at + length (decimal x) ≤ length (now out) ⌝ }
     ensures { λ r. ⌜ Wrote (now (out .entry)) at (decimal x) (now (out .exit)) r ⌝ }
 {
-    let width = total_width(x);
-    put_digits(out, at, width, x);
-    at + width
+    if x < 100 {
+        return put_short(out, at, x);
+    }
+    if x < 10000 {
+        let p = put_short(out, at, x / 100);
+        return put_pair(out, p, x % 100);
+    }
+    put_digits(out, at, x)
 }
 
 pub fn put_decimal(out: &mut [u8], at: usize, x: u32) -> usize
@@ -142,12 +169,12 @@ fn put_tail(out: &mut [u8], at: usize, a: u32, b: u32, c: u32) -> usize
 {
     let after_a = put_field(out, at, a);
     let after_b = put_field(out, after_a, b);
-    let end = put_field(out, after_b, c);
-    out[end] = b'\n';
-    end + 1
+    let after_c = put_field(out, after_b, c);
+    out[after_c] = b'\n';
+    after_c + 1
 }
 
-// "event, what, a, b, c": one line of the printed day, LF included.
+// "a list, each line ended by LF": event, what, a, b, c.
 pub fn put_line(out: &mut [u8], at: usize, event: u32, what: u8, a: u32, b: u32, c: u32) -> usize
     requires { ⌜ at + length (lineOf event what a b c) ≤ length (now out) ⌝ }
     ensures { λ r. ⌜ Wrote (now (out .entry)) at (lineOf event what a b c) (now (out .exit)) r ⌝ }
@@ -193,18 +220,18 @@ fn put_refused(out: &mut [u8], at: usize, no: u32) -> usize
     put_decimal(out, p, no)
 }
 
-fn put_place(out: &mut [u8], at: usize, place: u64) -> usize
+fn put_place(out: &mut [u8], at: usize, place: usize) -> usize
     requires { ⌜ at + length (placeOf place) ≤ length (now out) ⌝ }
     ensures { λ r. ⌜ Wrote (now (out .entry)) at (placeOf place) (now (out .exit)) r ⌝ }
 {
     let p = put_text(out, at, b" at ");
-    let end = put_total(out, p, place);
+    let end = put_total(out, p, place as u64);
     out[end] = b'\n';
     end + 1
 }
 
 // "`refused 2 at 0` (number, place)", LF included.
-pub fn put_refusal(out: &mut [u8], at: usize, no: u32, place: u64) -> usize
+pub fn put_refusal(out: &mut [u8], at: usize, no: u32, place: usize) -> usize
     requires { ⌜ at + length (refusalText no place) ≤ length (now out) ⌝ }
     ensures { λ r. ⌜ Wrote (now (out .entry)) at (refusalText no place) (now (out .exit)) r ⌝ }
 {
@@ -212,13 +239,13 @@ pub fn put_refusal(out: &mut [u8], at: usize, no: u32, place: u64) -> usize
     put_place(out, p, place)
 }
 
-pub fn refusal_width(no: u32, place: u64) -> usize
+pub fn refusal_width(no: u32, place: usize) -> usize
     ensures { λ r. ⌜ Takes (refusalText no place) 43 r ⌝ }
 {
-    decimal_width(no) + total_width(place) + 13
+    decimal_width(no) + total_width(place as u64) + 13
 }
 
-pub fn write_refusal(out: &mut [u8], no: u32, place: u64) -> Written
+pub fn write_refusal(out: &mut [u8], no: u32, place: usize) -> Written
     ensures { λ r. ⌜ Writes (now (out .entry)) (refusalText no place) r (now (out .exit)) ⌝ }
 {
     if out.len() < refusal_width(no, place) {

@@ -1,12 +1,10 @@
+-- `give_in_turn`: so many rounds are given.
 use Prim.Native.Nat.{_-_}
 use Rattle.sharing.specs.Turns.{Giving}
 use Rattle.sharing.proofs.Shares.{give-laws}
 use borrow.Author.Needs.{needs}
 use Rattle.sharing.proofs.give_in_turn.Statement.{statement}
 use Rattle.sharing.proofs.give_in_turn.Tie as tie
-use Rattle.sharing.proofs.give_in_turn.Reads as reads
-use Rattle.sharing.proofs.give_in_turn.Lts as lts
-use Rattle.sharing.proofs.next_turn.Reads as next-turn-reads
 
 abbrev Inv-loop : tie.InvT-loop
 Inv-loop claim customers k contracts fill₀ given₀ fill given = Giving claim customers k contracts fill₀ fill given
@@ -14,39 +12,30 @@ Inv-loop claim customers k contracts fill₀ given₀ fill given = Giving claim 
 abbrev μ-loop : tie.MeasureT-loop
 μ-loop claim customers k contracts fill₀ given₀ fill given = contracts - given
 
--- src/lib.rt:90:5
 loop-holds : tie.Need-loop-holds Inv-loop μ-loop
 loop-holds c = search (give-laws, needs)
 
--- src/lib.rt:91:13
 next-turn-requires : tie.Need-next-turn-requires Inv-loop μ-loop
 next-turn-requires c κs = search (give-laws, needs)
 
--- src/lib.rt:94:13
 returns : tie.Need-returns Inv-loop μ-loop
 returns c = search (give-laws, needs)
 
--- src/lib.rt:96:9
 mul-fill : tie.Need-mul-fill Inv-loop μ-loop
 mul-fill c = search (give-laws, needs)
 
--- src/lib.rt:96:9
 element-write-fill : tie.Need-element-write-fill Inv-loop μ-loop
 element-write-fill c = search (give-laws, needs)
 
--- src/lib.rt:97:9
 add-given : tie.Need-add-given Inv-loop μ-loop
 add-given c = search (give-laws, needs)
 
--- src/lib.rt:90:5
 loop-less : tie.Need-loop-less Inv-loop μ-loop
 loop-less c = search (give-laws, needs)
 
--- src/lib.rt:90:5
 loop-again : tie.Need-loop-again Inv-loop μ-loop
 loop-again c = search (give-laws, needs)
 
--- src/lib.rt:85:1
 returns-2 : tie.Need-returns-2 Inv-loop μ-loop
 returns-2 c = search (give-laws, needs)
 

@@ -1,14 +1,10 @@
-use mathlib.Core.Path.{_≡_}
-use mathlib.Core.Bool.{true}
+-- `keeps_rule`: the pairs passed are fair, up to the first that is not.
 use Prim.Native.Nat.{_-_}
 use Rattle.sharing.specs.Turns.{FairSoFar}
 use Rattle.sharing.proofs.Rule.{rule-laws}
 use borrow.Author.Needs.{needs}
 use Rattle.sharing.proofs.keeps_rule.Statement.{statement}
 use Rattle.sharing.proofs.keeps_rule.Tie as tie
-use Rattle.sharing.proofs.keeps_rule.Reads as reads
-use Rattle.sharing.proofs.keeps_rule.Lts as lts
-use Rattle.sharing.proofs.breaks.Reads as breaks-reads
 
 abbrev Inv-loop : tie.InvT-loop
 Inv-loop claim customers fill k kept₀ i j₀ kept j = FairSoFar claim customers fill k i j kept
@@ -22,87 +18,66 @@ Inv-lines claim customers fill k kept₀ i₀ kept i = FairSoFar claim customers
 abbrev μ-lines : tie.MeasureT-lines
 μ-lines claim customers fill k kept₀ i₀ kept i = k - i
 
--- src/lib.rt:132:5
 lines-holds : tie.Need-lines-holds Inv-loop μ-loop Inv-lines μ-lines
 lines-holds c = search (rule-laws, needs)
 
--- src/lib.rt:134:9
 loop-holds : tie.Need-loop-holds Inv-loop μ-loop Inv-lines μ-lines
 loop-holds c = search (rule-laws, needs)
 
--- src/lib.rt:135:23
 mul-breaks : tie.Need-mul-breaks Inv-loop μ-loop Inv-lines μ-lines
 mul-breaks c = search (rule-laws, needs)
 
--- src/lib.rt:135:23
 element-copy-out-breaks : tie.Need-element-copy-out-breaks Inv-loop μ-loop Inv-lines μ-lines
 element-copy-out-breaks c = search (rule-laws, needs)
 
--- src/lib.rt:135:32
 mul-breaks-2 : tie.Need-mul-breaks-2 Inv-loop μ-loop Inv-lines μ-lines
 mul-breaks-2 c = search (rule-laws, needs)
 
--- src/lib.rt:135:32
 element-copy-out-breaks-2 : tie.Need-element-copy-out-breaks-2 Inv-loop μ-loop Inv-lines μ-lines
 element-copy-out-breaks-2 c = search (rule-laws, needs)
 
--- src/lib.rt:135:42
 mul-breaks-3 : tie.Need-mul-breaks-3 Inv-loop μ-loop Inv-lines μ-lines
 mul-breaks-3 c = search (rule-laws, needs)
 
--- src/lib.rt:135:42
 element-copy-out-breaks-3 : tie.Need-element-copy-out-breaks-3 Inv-loop μ-loop Inv-lines μ-lines
 element-copy-out-breaks-3 c = search (rule-laws, needs)
 
--- src/lib.rt:135:56
 mul-breaks-4 : tie.Need-mul-breaks-4 Inv-loop μ-loop Inv-lines μ-lines
 mul-breaks-4 c = search (rule-laws, needs)
 
--- src/lib.rt:135:56
 element-copy-out-breaks-4 : tie.Need-element-copy-out-breaks-4 Inv-loop μ-loop Inv-lines μ-lines
 element-copy-out-breaks-4 c = search (rule-laws, needs)
 
--- src/lib.rt:135:65
 mul-breaks-5 : tie.Need-mul-breaks-5 Inv-loop μ-loop Inv-lines μ-lines
 mul-breaks-5 c = search (rule-laws, needs)
 
--- src/lib.rt:135:65
 element-copy-out-breaks-5 : tie.Need-element-copy-out-breaks-5 Inv-loop μ-loop Inv-lines μ-lines
 element-copy-out-breaks-5 c = search (rule-laws, needs)
 
--- src/lib.rt:135:16
 breaks-requires : tie.Need-breaks-requires Inv-loop μ-loop Inv-lines μ-lines
 breaks-requires c κs = search (rule-laws, needs)
 
--- src/lib.rt:139:13
 add-j : tie.Need-add-j Inv-loop μ-loop Inv-lines μ-lines
 add-j c = search (rule-laws, needs)
 
--- src/lib.rt:134:9
 loop-less : tie.Need-loop-less Inv-loop μ-loop Inv-lines μ-lines
 loop-less c = search (rule-laws, needs)
 
--- src/lib.rt:134:9
 loop-again : tie.Need-loop-again Inv-loop μ-loop Inv-lines μ-lines
 loop-again c = search (rule-laws, c .before .breaks .ensures, c .if1 .left, needs)
 
--- src/lib.rt:141:9
 add-i : tie.Need-add-i Inv-loop μ-loop Inv-lines μ-lines
 add-i c = search (rule-laws, needs)
 
--- src/lib.rt:132:5
 lines-less : tie.Need-lines-less Inv-loop μ-loop Inv-lines μ-lines
 lines-less c = search (rule-laws, needs)
 
--- src/lib.rt:132:5
 lines-again : tie.Need-lines-again Inv-loop μ-loop Inv-lines μ-lines
 lines-again c = search (rule-laws, needs)
 
--- src/lib.rt:126:1
 returns : tie.Need-returns Inv-loop μ-loop Inv-lines μ-lines
 returns c = search (rule-laws, needs)
 
--- src/lib.rt:126:1
 returns-2 : tie.Need-returns-2 Inv-loop μ-loop Inv-lines μ-lines
 returns-2 c = search (rule-laws, needs)
 

@@ -1,12 +1,10 @@
+-- `next_turn`: the turn found is that of the lines passed.
 use Prim.Native.Nat.{_-_}
 use Rattle.sharing.specs.Turns.{Scanning}
 use Rattle.sharing.proofs.Shares.{scan-laws}
 use borrow.Author.Needs.{needs}
 use Rattle.sharing.proofs.next_turn.Statement.{statement}
 use Rattle.sharing.proofs.next_turn.Tie as tie
-use Rattle.sharing.proofs.next_turn.Reads as reads
-use Rattle.sharing.proofs.next_turn.Lts as lts
-use Rattle.sharing.proofs.sooner.Reads as sooner-reads
 
 abbrev Inv-loop : tie.InvT-loop
 Inv-loop claim customers fill k turn₀ i₀ turn i = Scanning claim customers fill k i turn
@@ -14,51 +12,39 @@ Inv-loop claim customers fill k turn₀ i₀ turn i = Scanning claim customers f
 abbrev μ-loop : tie.MeasureT-loop
 μ-loop claim customers fill k turn₀ i₀ turn i = k - i
 
--- src/lib.rt:66:5
 loop-holds : tie.Need-loop-holds Inv-loop μ-loop
 loop-holds c = search (scan-laws, needs)
 
--- src/lib.rt:67:32
 mul-sooner : tie.Need-mul-sooner Inv-loop μ-loop
 mul-sooner c = search (scan-laws, needs)
 
--- src/lib.rt:67:32
 element-copy-out-sooner : tie.Need-element-copy-out-sooner Inv-loop μ-loop
 element-copy-out-sooner c = search (scan-laws, needs)
 
--- src/lib.rt:67:41
 mul-sooner-2 : tie.Need-mul-sooner-2 Inv-loop μ-loop
 mul-sooner-2 c = search (scan-laws, needs)
 
--- src/lib.rt:67:41
 element-copy-out-sooner-2 : tie.Need-element-copy-out-sooner-2 Inv-loop μ-loop
 element-copy-out-sooner-2 c = search (scan-laws, needs)
 
--- src/lib.rt:67:51
 mul-sooner-3 : tie.Need-mul-sooner-3 Inv-loop μ-loop
 mul-sooner-3 c = search (scan-laws, needs)
 
--- src/lib.rt:67:51
 element-copy-out-sooner-3 : tie.Need-element-copy-out-sooner-3 Inv-loop μ-loop
 element-copy-out-sooner-3 c = search (scan-laws, needs)
 
--- src/lib.rt:67:9
 sooner-requires : tie.Need-sooner-requires Inv-loop μ-loop
 sooner-requires c κs = search (scan-laws, needs)
 
--- src/lib.rt:68:9
 add-i : tie.Need-add-i Inv-loop μ-loop
 add-i c = search (scan-laws, needs)
 
--- src/lib.rt:66:5
 loop-less : tie.Need-loop-less Inv-loop μ-loop
 loop-less c = search (scan-laws, needs)
 
--- src/lib.rt:66:5
 loop-again : tie.Need-loop-again Inv-loop μ-loop
 loop-again c = search (scan-laws, needs)
 
--- src/lib.rt:60:1
 returns : tie.Need-returns Inv-loop μ-loop
 returns c = search (scan-laws, needs)
 

@@ -1,12 +1,10 @@
+-- `total`: the sum of the words passed.
 use Prim.Native.Nat.{_-_}
 use Rattle.sharing.specs.Turns.{Summing}
 use Rattle.sharing.proofs.Words.{sum-laws}
 use borrow.Author.Needs.{needs}
 use Rattle.sharing.proofs.total.Statement.{statement}
 use Rattle.sharing.proofs.total.Tie as tie
-use Rattle.sharing.proofs.total.Reads as reads
-use Rattle.sharing.proofs.total.Lts as lts
-use Rattle.rows.proofs.wide.Reads as wide-reads
 
 abbrev Inv-loop : tie.InvT-loop
 Inv-loop words k sum₀ i₀ sum i = Summing words k i sum
@@ -14,39 +12,30 @@ Inv-loop words k sum₀ i₀ sum i = Summing words k i sum
 abbrev μ-loop : tie.MeasureT-loop
 μ-loop words k sum₀ i₀ sum i = k - i
 
--- src/lib.rt:17:5
 loop-holds : tie.Need-loop-holds Inv-loop μ-loop
 loop-holds c = search (sum-laws, needs)
 
--- src/lib.rt:18:27
 mul-wide : tie.Need-mul-wide Inv-loop μ-loop
 mul-wide c = search (sum-laws, needs)
 
--- src/lib.rt:18:27
 element-copy-out-wide : tie.Need-element-copy-out-wide Inv-loop μ-loop
 element-copy-out-wide c = search (sum-laws, needs)
 
--- src/lib.rt:18:16
 wide-requires : tie.Need-wide-requires Inv-loop μ-loop
 wide-requires c κs = search (sum-laws, needs)
 
--- src/lib.rt:18:9
 add-sum : tie.Need-add-sum Inv-loop μ-loop
 add-sum c = search (sum-laws, needs)
 
--- src/lib.rt:19:9
 add-i : tie.Need-add-i Inv-loop μ-loop
 add-i c = search (sum-laws, needs)
 
--- src/lib.rt:17:5
 loop-less : tie.Need-loop-less Inv-loop μ-loop
 loop-less c = search (sum-laws, needs)
 
--- src/lib.rt:17:5
 loop-again : tie.Need-loop-again Inv-loop μ-loop
 loop-again c = search (sum-laws, needs)
 
--- src/lib.rt:11:1
 returns : tie.Need-returns Inv-loop μ-loop
 returns c = search (sum-laws, needs)
 

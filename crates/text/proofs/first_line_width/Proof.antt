@@ -1,11 +1,9 @@
+-- `first_line_width` meets its contract.
 use Rattle.text.proofs.Lines.{first-line-laws}
 use borrow.Author.Needs.{needs}
 use Rattle.text.proofs.first_line_width.Statement.{statement}
 use Rattle.text.proofs.first_line_width.Tie as tie
-use Rattle.text.proofs.first_line_width.Reads as reads
-use Rattle.text.proofs.first_line_width.Lts as lts
 
--- src/lib.rt:174:1
 returns : tie.Need-returns
 returns c = search (first-line-laws, needs)
 

@@ -1,11 +1,10 @@
+-- `put_text` meets its contract.
 use Prim.Native.Nat.{_-_}
 use lib.ListN.{length}
 use Rattle.text.proofs.Lent.{Copied, copy-laws}
 use borrow.Author.Needs.{needs}
 use Rattle.text.proofs.put_text.Statement.{statement}
 use Rattle.text.proofs.put_text.Tie as tie
-use Rattle.text.proofs.put_text.Reads as reads
-use Rattle.text.proofs.put_text.Lts as lts
 
 abbrev Inv-loop : tie.InvT-loop
 Inv-loop out₀ at text i₀ out i = Copied out₀ text at out i
@@ -13,43 +12,33 @@ Inv-loop out₀ at text i₀ out i = Copied out₀ text at out i
 abbrev μ-loop : tie.MeasureT-loop
 μ-loop out₀ at text i₀ out i = length text - i
 
--- src/lib.rt:36:5
 loop-holds : tie.Need-loop-holds Inv-loop μ-loop
 loop-holds c = search (copy-laws, needs)
 
--- src/lib.rt:37:23
 shared-slice-read-out : tie.Need-shared-slice-read-out Inv-loop μ-loop
 shared-slice-read-out c = search (copy-laws, needs)
 
--- src/lib.rt:37:13
 add-out : tie.Need-add-out Inv-loop μ-loop
 add-out c = search (copy-laws, needs)
 
--- src/lib.rt:37:9
 slice-write-out : tie.Need-slice-write-out Inv-loop μ-loop
 slice-write-out c = search (copy-laws, needs)
 
--- src/lib.rt:38:9
 add-i : tie.Need-add-i Inv-loop μ-loop
 add-i c = search (copy-laws, needs)
 
--- src/lib.rt:36:5
 loop-less : tie.Need-loop-less Inv-loop μ-loop
 loop-less c = search (copy-laws, needs)
 
--- src/lib.rt:36:5
 loop-again : tie.Need-loop-again Inv-loop μ-loop
 loop-again c = search (copy-laws, needs)
 
--- src/lib.rt:40:5
 add-result : tie.Need-add-result Inv-loop μ-loop
 add-result c = search (copy-laws, needs)
 
--- src/lib.rt:31:1
 same-length : tie.Need-same-length Inv-loop μ-loop
 same-length c = search (copy-laws, needs)
 
--- src/lib.rt:31:1
 returns : tie.Need-returns Inv-loop μ-loop
 returns c = search (copy-laws, needs)
 

@@ -1,29 +1,21 @@
+-- `refusal_width` meets its contract.
 use Rattle.text.proofs.Lines.{takes-laws}
 use borrow.Author.Needs.{needs}
 use Rattle.text.proofs.refusal_width.Statement.{statement}
 use Rattle.text.proofs.refusal_width.Tie as tie
-use Rattle.text.proofs.refusal_width.Reads as reads
-use Rattle.text.proofs.refusal_width.Lts as lts
-use Rattle.text.proofs.decimal_width.Reads as decimal-width-reads
-use Rattle.text.proofs.total_width.Reads as total-width-reads
 
--- src/lib.rt:218:5
 decimal-width-requires : tie.Need-decimal-width-requires
 decimal-width-requires c κs = search (takes-laws, needs)
 
--- src/lib.rt:218:25
 total-width-requires : tie.Need-total-width-requires
 total-width-requires c κs = search (takes-laws, needs)
 
--- src/lib.rt:218:5
 add-result : tie.Need-add-result
 add-result c = search (takes-laws, needs)
 
--- src/lib.rt:218:5
 add-result-2 : tie.Need-add-result-2
 add-result-2 c = search (takes-laws, needs)
 
--- src/lib.rt:215:1
 returns : tie.Need-returns
 returns c = search (takes-laws, needs)
 

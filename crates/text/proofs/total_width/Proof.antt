@@ -1,28 +1,21 @@
+-- `total_width` meets its contract.
 use Rattle.text.proofs.Decimal.{width-laws}
 use borrow.Author.Needs.{needs}
 use Rattle.text.proofs.total_width.Statement.{statement}
 use Rattle.text.proofs.total_width.Tie as tie
-use Rattle.text.proofs.total_width.Reads as reads
-use Rattle.text.proofs.total_width.Lts as lts
-use Rattle.text.proofs.width_to_ten.Reads as width-to-ten-reads
 
--- src/lib.rt:88:9
 width-to-ten-requires : tie.Need-width-to-ten-requires
 width-to-ten-requires c κs = search (width-laws, needs)
 
--- src/lib.rt:88:9
 returns : tie.Need-returns
 returns c = search (width-laws, needs)
 
--- src/lib.rt:90:5
 width-to-ten-requires-2 : tie.Need-width-to-ten-requires-2
 width-to-ten-requires-2 c κs = search (width-laws, needs)
 
--- src/lib.rt:90:5
 add-result : tie.Need-add-result
 add-result c = search (width-laws, needs)
 
--- src/lib.rt:84:1
 returns-2 : tie.Need-returns-2
 returns-2 c = search (width-laws, needs)
 

@@ -1,0 +1,89 @@
+-- The due total of a trade, and the start.
+use mathlib.Core.Path.{_≡_, refl, sym, _∙_}
+use mathlib.Core.Bool.{Bool, true, false}
+use mathlib.Core.List.{List, []}
+use Prim.Native.Nat.{ℕ, zero, suc, _+_, _*_, _<_, min}
+use native.Mathlib.Omega.{arith}
+use lib.ListN.{getD, replicate, length-replicate}
+use Rattle.rules.specs.Basics.{below, keep, sum}
+use Rattle.rules.specs.Header.{Header}
+use Rattle.rules.specs.Record.{trade}
+use Rattle.rules.specs.Journal.{History, count, tradeAt, beforeTrade}
+use Rattle.rules.specs.Due.{capped, linesOf, lines, ofTrade, claimsOf, dueOf, due}
+use Rattle.excuses.specs.Excuses.{bit}
+use Rattle.trades.specs.Trades.{tradeRow, Traded}
+use Rattle.claims.specs.Lines.{linesFrom, manyOf, sumOf, tradeLines, Lined, Filing, DueIs}
+
+bit-one : (b : Bool) → bit b ≡ 1 → b ≡ true
+bit-one true p = refl
+bit-one false p = let z : ⊥ = omega arith in elim z [ ]
+
+bit-not-one : (b : Bool) → (bit b ≡ 1 → ⊥) → b ≡ false
+bit-not-one true p = let z : ⊥ = p refl in elim z [ ]
+bit-not-one false p = refl
+
+module _ (cl tr : List ℕ) (m : ℕ) where
+  module _ (h : Header) (past : History) (sn : List ℕ) (trades n : ℕ) (hm : m < trades) (few : m < 128) (tv : Traded h past tr sn trades)
+      (held : Lined h past cl n) where
+    cap-word : getD tr (m * 8 + 6) 0 ≡ bit (capped h (beforeTrade m past) (trade (tradeAt m past)))
+    unfolding tradeRow
+    cap-word = tv .rows m 6 hm (omega arith)
+
+    size-word : getD tr (m * 8 + 1) 0 ≡ (trade (tradeAt m past)) .size
+    unfolding tradeRow
+    size-word = tv .rows m 1 hm (omega arith)
+
+    sum-word : getD cl ((640 + m) * 8 + 1) 0 ≡ sum (claimsOf (ofTrade m (linesOf h past)))
+    unfolding sumOf
+    sum-word = held .sums m few
+
+    due-capped : getD tr (m * 8 + 6) 0 ≡ 1 → min (getD tr (m * 8 + 1) 0) (getD cl ((640 + m) * 8 + 1) 0) ≡ due (record { header = h; history = past }) m
+    unfolding due dueOf lines
+    due-capped p = rw (bit-one (capped h (beforeTrade m past) (trade (tradeAt m past))) (sym cap-word ∙ p), size-word, sum-word)
+
+    due-whole : (getD tr (m * 8 + 6) 0 ≡ 1 → ⊥) → getD cl ((640 + m) * 8 + 1) 0 ≡ due (record { header = h; history = past }) m
+    unfolding due dueOf lines
+    due-whole p = rw (bit-not-one (capped h (beforeTrade m past) (trade (tradeAt m past))) (λ q. p (cap-word ∙ q)), sum-word)
+
+  pub capped-due : getD tr (m * 8 + 6) 0 ≡ 1 → (r : ℕ) → r ≡ min (getD tr (m * 8 + 1) 0) (getD cl ((640 + m) * 8 + 1) 0) → DueIs cl tr m r
+  capped-due p r e = record { so = λ h past sn trades n hm few tv held. e ∙ due-capped h past sn trades n hm few tv held p }
+
+  pub whole-due : (getD tr (m * 8 + 6) 0 ≡ 1 → ⊥) → DueIs cl tr m (getD cl ((640 + m) * 8 + 1) 0)
+  whole-due p = record { so = λ h past sn trades n hm few tv held. due-whole h past sn trades n hm few tv held p }
+
+pub ruleset due-laws = (capped-due, whole-due)
+
+-- ---- the start
+
+zeros : (n k : ℕ) → _≡_ {A = ℕ} (getD (replicate n 0) k 0) 0
+zeros zero k = refl
+zeros (suc n) zero = refl
+zeros (suc n) (suc k) = zeros n k
+
+none-of-trade : (m : ℕ) → _≡_ {A = ℕ} (manyOf (replicate 6144 0) m) 0
+unfolding manyOf
+none-of-trade m = zeros 6144 ((640 + m) * 8)
+
+none-claimed : (m : ℕ) → _≡_ {A = ℕ} (sumOf (replicate 6144 0) m) 0
+unfolding sumOf
+none-claimed m = zeros 6144 ((640 + m) * 8 + 1)
+
+pub lines-none : (h : Header) → Lined h [] (replicate 6144 0) 0
+unfolding linesFrom linesOf below count keep ofTrade sum tradeLines
+lines-none h =
+    record {
+      numbered = refl;
+      lines = refl;
+      by-trade = λ m hm. rw (none-of-trade m);
+      sums = λ m hm. none-claimed m;
+    }
+
+pub nothing-filed : Filing (replicate 6144 0) 0
+nothing-filed =
+    record {
+      eight = λ m h. omega (arith, none-of-trade m);
+      earlier = λ m i h g. let z : ⊥ = omega (arith, none-of-trade m) in elim z [ ];
+      small = λ m h. omega (arith, none-claimed m);
+      few = omega arith;
+      long = length-replicate {A = ℕ} 6144 0;
+    }

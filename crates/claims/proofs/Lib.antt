@@ -1,0 +1,5 @@
+pub mod Table
+pub mod Judge
+pub mod Lines
+pub mod Due
+pub mod TradeLines

@@ -1,0 +1,436 @@
+-- Lines of the definitions and of the table, in all and by trade, and sums of claims: what one more record does to them.
+use mathlib.Core.Path.{_≡_, refl, sym, ap, _∙_}
+use mathlib.Core.Bool.{true, false}
+use mathlib.Core.List.{List, [], _∷_, _++_, map}
+use Prim.Native.Nat.{ℕ, zero, suc, _+_, _-_, _*_, _<_, _≤_}
+use native.Mathlib.Omega.{arith}
+use native.Mathlib.Numerals.{add-one}
+use lib.Dec.{eqb}
+use lib.ListN.{getD, length, set, length-set}
+use lib.Seq.{getD-set-same, getD-set-other}
+use borrow.Author.Tests.{eq-eqb, ne-eqb, eqb-true, eqb-false}
+use Rattle.rules.specs.Basics.{if_then_else_, _==_, below, keep, sum}
+use Rattle.rules.specs.Header.{Header}
+use Rattle.rules.specs.Record.{Event, field, satisfaction, isSatisfaction, satisfactionKind}
+use Rattle.rules.specs.Journal.{History, count}
+use Rattle.rules.specs.Reasons.{caseOf, customers, reason}
+use Rattle.rules.specs.Due.{Line, lineOf, linesOf, ofTrade, claimsOf, claim}
+use Rattle.rules.proofs.Tests.{byTest}
+use Rattle.rules.proofs.Histories.{count-cons, count-skip}
+use Rattle.rows.specs.Rows.{Reads, word, Put, RecOk}
+use Rattle.rows.specs.declared.Rec.{Rec}
+use Rattle.orders.specs.Orders.{Headed, Heads}
+use Rattle.trades.specs.Trades.{Traded}
+use Rattle.claims.specs.declared.Facts.{Facts}
+use Rattle.claims.specs.Reasons.{reasonOf, claimOf, factsOf}
+use Rattle.claims.specs.Lines.{lineAt, linesFrom, numberAt, manyOf, sumOf, tradeLines, Lined, Filing, Fileable, Filed, Placed, Placeable, ClaimsStep}
+use Rattle.claims.proofs.Judge.{reason-is, customers-are, claim-is}
+
+-- ---- one line more at the end
+
+map-snoc : (f : ℕ → Line) (l : List ℕ) (n : ℕ) → map f (l ++ (n ∷ [])) ≡ map f l ++ (f n ∷ [])
+map-snoc f [] n = refl
+map-snoc f (x ∷ l) n = ap (λ (r : List Line). f x ∷ r) (map-snoc f l n)
+
+lines-more : (cl : List ℕ) (n : ℕ) → linesFrom cl (n + 1) ≡ linesFrom cl n ++ (lineAt cl n ∷ [])
+unfolding linesFrom below
+lines-more cl n = rw add-one (map-snoc (lineAt cl) (below n) n)
+
+-- the first lines are the same where no row below is
+lines-same : (cl u : List ℕ) (k : ℕ) → ((i : ℕ) → i < k → lineAt u i ≡ lineAt cl i) → linesFrom u k ≡ linesFrom cl k
+unfolding linesFrom below
+lines-same cl u zero h = refl
+lines-same cl u (suc k) h =
+    map-snoc (lineAt u) (below k) k
+    ∙ rw (h k (omega arith))
+    (ap (λ (l : List Line). l ++ (lineAt cl k ∷ [])) (lines-same cl u k (λ i hi. h i (omega arith))) ∙ sym (map-snoc (lineAt cl) (below k) k))
+
+pub trade-lines-more : (cl : List ℕ) (m k : ℕ) → tradeLines cl m (k + 1) ≡ tradeLines cl m k ++ (lineAt cl (numberAt cl m k) ∷ [])
+unfolding tradeLines below
+trade-lines-more cl m k = rw add-one (map-snoc (λ i. lineAt cl (numberAt cl m i)) (below k) k)
+
+trade-lines-same : (cl u : List ℕ) (m k : ℕ) → ((i : ℕ) → i < k → lineAt u (numberAt u m i) ≡ lineAt cl (numberAt cl m i))
+    → tradeLines u m k ≡ tradeLines cl m k
+unfolding tradeLines below
+trade-lines-same cl u m zero h = refl
+trade-lines-same cl u m (suc k) h =
+    map-snoc (λ i. lineAt u (numberAt u m i)) (below k) k
+    ∙ rw (h k (omega arith))
+    (ap (λ (l : List Line). l ++ (lineAt cl (numberAt cl m k) ∷ [])) (trade-lines-same cl u m k (λ i hi. h i (omega arith)))
+    ∙ sym (map-snoc (λ i. lineAt cl (numberAt cl m i)) (below k) k))
+
+pub of-trade-more : (m : ℕ) (ls : List Line) (l : Line) → ofTrade m (ls ++ (l ∷ [])) ≡ ofTrade m ls ++ (if l .trade == m then l ∷ [] else [])
+unfolding ofTrade keep
+of-trade-more m [] l = refl
+of-trade-more m (x ∷ ls) l =
+    byTest (eqb (x .trade) m) (λ p. rw p (ap (λ (r : List Line). x ∷ r) (of-trade-more m ls l))) (λ p. rw p (of-trade-more m ls l))
+
+append-nil : (l : List Line) → l ++ [] ≡ l
+append-nil [] = refl
+append-nil (x ∷ l) = ap (λ (r : List Line). x ∷ r) (append-nil l)
+
+sum-more : (m : ℕ) (ls : List Line) (l : Line)
+    → sum (claimsOf (ofTrade m (ls ++ (l ∷ []))))
+    ≡ (if l .trade == m then sum (claimsOf (ofTrade m ls)) + l .claim else sum (claimsOf (ofTrade m ls)))
+unfolding ofTrade keep sum
+sum-more m [] l = byTest (eqb (l .trade) m) (λ q. rw q (omega arith)) (λ q. rw q)
+sum-more m (x ∷ ls) l =
+    byTest (eqb (x .trade) m)
+    (λ p. byTest (eqb (l .trade) m)
+    (λ q. let h = rw q at (sum-more m ls l) in rw (p, q) (omega arith))
+    (λ q. let h = rw q at (sum-more m ls l) in rw (p, q) (omega arith)))
+    (λ p. rw p (sum-more m ls l))
+
+-- the sum of a trade's claims with this order's line, and with another trade's
+line-words : (h : Header) (past : History) (i : ℕ) (e : Event) (a s t : ℕ) → s ≡ t + claim h (caseOf past e) → eqb (field e 0) a ≡ true
+    → s ≡ (if (lineOf h past i e) .trade == a then t + (lineOf h past i e) .claim else t)
+unfolding lineOf
+line-words h past i e a s t p q = rw q p
+
+other-line : (h : Header) (past : History) (i : ℕ) (e : Event) (a s t : ℕ) → s ≡ t → eqb (field e 0) a ≡ false
+    → s ≡ (if (lineOf h past i e) .trade == a then t + (lineOf h past i e) .claim else t)
+unfolding lineOf
+other-line h past i e a s t p q = rw q p
+
+pub in-its-trade : (h : Header) (past : History) (i : ℕ) (e : Event) (a : ℕ) (ls s : List Line) → s ≡ ls ++ (lineOf h past i e ∷ []) → eqb (field e 0) a ≡ true
+    → s ≡ ls ++ (if (lineOf h past i e) .trade == a then lineOf h past i e ∷ [] else [])
+unfolding lineOf
+in-its-trade h past i e a ls s p q = rw q p
+
+in-another : (h : Header) (past : History) (i : ℕ) (e : Event) (a : ℕ) (ls s : List Line) → s ≡ ls → eqb (field e 0) a ≡ false
+    → s ≡ ls ++ (if (lineOf h past i e) .trade == a then lineOf h past i e ∷ [] else [])
+unfolding lineOf
+in-another h past i e a ls s p q = rw q (p ∙ sym (append-nil ls))
+
+same-trade : (a y m z : ℕ) → y < 8 → z < 8 → a * 8 + y ≡ m * 8 + z → a ≡ m
+same-trade a y m z hy hz e = omega arith
+
+-- ---- a record of another kind
+
+lines-skip : (h : Header) (e : Event) (past : History) → (e .kind ≡ satisfactionKind → ⊥) → linesOf h (e ∷ past) ≡ linesOf h past
+unfolding linesOf
+lines-skip h e past ne = rw (ne-eqb (e .kind) satisfactionKind ne) (append-nil (linesOf h past))
+
+pub lines-alone : (h : Header) (past : History) (cl : List ℕ) (n : ℕ) (e : Event) → (e .kind ≡ satisfactionKind → ⊥)
+    → Lined h past cl n → Lined h (e ∷ past) cl n
+lines-alone h past cl n e ne held =
+    let same = sym (lines-skip h e past ne) in
+    record {
+      numbered = held .numbered ∙ sym (count-skip isSatisfaction e past (ne-eqb (e .kind) satisfactionKind ne));
+      lines = held .lines ∙ same;
+      by-trade = λ m hm. held .by-trade m hm ∙ ap (ofTrade m) same;
+      sums = λ m hm. held .sums m hm ∙ ap (λ (l : List Line). sum (claimsOf (ofTrade m l))) same;
+    }
+
+-- ---- a Satisfaction Order
+
+pub lines-new : (h : Header) (e : Event) (past : History) → e .kind ≡ satisfactionKind
+    → linesOf h (e ∷ past) ≡ linesOf h past ++ (lineOf h past (count isSatisfaction past) e ∷ [])
+unfolding linesOf
+lines-new h e past k = rw (eq-eqb (e .kind) satisfactionKind k)
+
+line-is : (u : List ℕ) (n why contracts due : ℕ) (r : Rec) (h : Header) (e : Event) (past : History) → Reads e r
+    → ((i : ℕ) → i < 8 → getD u (n * 8 + i) 0 ≡ getD (word r 0 ∷ word r 3 ∷ why ∷ contracts ∷ due ∷ 0 ∷ 0 ∷ 0 ∷ []) i 0)
+    → why ≡ reason h (caseOf past e) → contracts ≡ customers (caseOf past e) → due ≡ claim h (caseOf past e)
+    → lineAt u n ≡ lineOf h past n e
+unfolding lineOf
+line-is u n why contracts due r h e past rd here a b c =
+    rw (
+      here 0 (omega arith),
+      here 1 (omega arith),
+      here 2 (omega arith),
+      here 3 (omega arith),
+      here 4 (omega arith),
+      rd .fields 0,
+      rd .fields 3,
+      a,
+      b,
+      c,
+    )
+
+pub facts-read : (tr sn : List ℕ) (m y home close asked now : ℕ)
+    → (record {
+      side = getD sn ((m * 8 + y) * 8 + 0) 0;
+      there = getD sn ((m * 8 + y) * 8 + 1) 0;
+      customers = getD sn ((m * 8 + y) * 8 + 2) 0;
+      status = getD sn ((m * 8 + y) * 8 + 3) 0;
+      excused = getD sn ((m * 8 + y) * 8 + 4) 0;
+      home = getD sn ((m * 8 + (home - 1)) * 8 + 3) 0;
+      price = getD tr (m * 8 + 0) 0;
+      block = getD tr (m * 8 + 2) 0;
+      complex = getD tr (m * 8 + 3) 0;
+      initiator = getD tr (m * 8 + 4) 0;
+      report = getD tr (m * 8 + 5) 0;
+      close = close;
+      asked = asked;
+      time = now;
+    })
+    ≡ factsOf tr sn m y home close asked now
+unfolding factsOf
+facts-read tr sn m y home close asked now = refl
+
+claim-at-most-size : (why size contracts traded : ℕ) → claimOf why size contracts traded ≤ size
+unfolding claimOf
+claim-at-most-size why size contracts traded = byTest (eqb why 0) (λ z. rw z (omega arith)) (λ z. rw z (omega arith))
+
+-- ---- the three stores of a line
+
+module _ (cl c1 c3 row : List ℕ) (n m k w : ℕ) (able : Fileable cl row n m) (first : Put cl c1 row n 8) (ek : (k ≡ getD cl ((640 + m) * 8) 0) × (k < 4294967296)) (ew : w ≡ n)
+    (last : Put (set c1 ((512 + m) * 8 + k) w) c3
+    ((getD cl ((640 + m) * 8) 0 + 1) ∷ (getD cl ((640 + m) * 8 + 1) 0 + getD row 4 0) ∷ 0 ∷ 0 ∷ 0 ∷ 0 ∷ 0 ∷ 0 ∷ []) (640 + m) 8) where
+  few : k < 8
+  few = omega (arith, able .eighth, ek .0)
+
+  long-1 : length c1 ≡ 6144
+  long-1 = first .long ∙ able .long
+
+  -- a word of a row that is none of the three
+  kept : (q i : ℕ) → i < 8 → (q ≡ n → ⊥) → (q ≡ 640 + m → ⊥) → (q * 8 + i ≡ (512 + m) * 8 + k → ⊥) → getD c3 (q * 8 + i) 0 ≡ getD cl (q * 8 + i) 0
+  kept q i hi no-line no-sum no-number =
+      last .others q i hi no-sum
+      ∙ getD-set-other c1 ((512 + m) * 8 + k) (q * 8 + i) w 0 no-number
+      ∙ first .others q i hi no-line
+
+  line-word : (i : ℕ) → i < 8 → getD c3 (n * 8 + i) 0 ≡ getD row i 0
+  line-word i hi =
+      last .others n i hi (λ z. omega arith)
+      ∙ getD-set-other c1 ((512 + m) * 8 + k) (n * 8 + i) w 0 (λ z. omega arith)
+      ∙ first .here i hi
+
+  number-word : getD c3 ((512 + m) * 8 + k) 0 ≡ n
+  number-word =
+      last .others (512 + m) k few (λ z. omega arith)
+      ∙ getD-set-same c1 ((512 + m) * 8 + k) w 0 (omega (arith, long-1, few)) ∙ ew
+
+  pub line-filed : Filed cl c3 row n m
+  unfolding numberAt manyOf sumOf
+  line-filed =
+      record {
+        here = line-word;
+        others = λ q i hq hi ne. kept q i hi ne (λ z. omega arith) (λ z. omega (arith, few));
+        number-here = rw (← ek .0) number-word;
+        number-other =
+            λ q i hq hi ne. kept (512 + q) i hi (λ z. omega arith) (λ z. omega arith)
+            (λ z. let same : q ≡ m = same-trade q i m k hi few (omega arith) in ne same (omega (arith, ek .0)));
+        many-here = first-word c3 (640 + m) ∙ last .here 0 (omega arith);
+        many-other =
+            λ q ne. first-word c3 (640 + q) ∙ kept (640 + q) 0 (omega arith) (λ z. omega arith) (λ z. ne (omega arith)) (λ z. omega (arith, few))
+            ∙ sym (first-word cl (640 + q));
+        sum-here = last .here 1 (omega arith);
+        sum-other = λ q ne. kept (640 + q) 1 (omega arith) (λ z. omega arith) (λ z. ne (omega arith)) (λ z. omega (arith, few));
+        same-length = last .long ∙ simp length-set (first .long);
+      }
+    where
+      first-word : (l : List ℕ) (q : ℕ) → getD l (q * 8) 0 ≡ getD l (q * 8 + 0) 0
+      first-word l q = ap (λ (j : ℕ). getD l j 0) (omega arith)
+
+module _ (r : Rec) (home exchanges close : ℕ) (tr sn : List ℕ) (trades : ℕ) (cl : List ℕ) (n : ℕ) (ht : trades ≤ 128) (ok : Headed exchanges home)
+    (pl : Placeable r cl trades exchanges n) (fi : Filing cl n)
+    (m : ℕ) (em : (m ≡ word r 0) × (m < 4294967296)) (x : ℕ) (ex : (x ≡ word r 1) × (x < 4294967296)) where
+  pub trade-known : m < 128
+  trade-known = omega (arith, em .0, pl .trade)
+
+  pub sender-known : x - 1 < 8
+  sender-known = omega (arith, ex .0, pl .from-one, pl .to-n, ok .few)
+
+  eighth-left : manyOf cl m < 8
+  eighth-left = rw (em .0) (pl .first)
+
+  module _ (k : Facts) (ek : k ≡ factsOf tr sn m (x - 1) home close (word r 2) (r .time)) (why : ℕ) (ew : why ≡ reasonOf k)
+      (due : ℕ) (ed : due ≡ claimOf why (word r 3) (k .customers) (getD tr (m * 8 + 1) 0)) where
+    claim-small : due ≤ 100000
+    claim-small = omega (arith, claim-at-most-size why (word r 3) (k .customers) (getD tr (m * 8 + 1) 0), pl .size, ed)
+
+    pub order-fileable : Fileable cl (word r 0 ∷ word r 3 ∷ why ∷ k .customers ∷ due ∷ 0 ∷ 0 ∷ 0 ∷ []) n m
+    unfolding manyOf sumOf
+    order-fileable =
+        record {
+          line = pl .room;
+          trade = trade-known;
+          eighth = eighth-left;
+          sum-small = omega (arith, fi .small m trade-known, fi .few);
+          claim-small = claim-small;
+          long = fi .long;
+        }
+
+    module _ (cl2 : List ℕ) (f : Filed cl cl2 (word r 0 ∷ word r 3 ∷ why ∷ k .customers ∷ due ∷ 0 ∷ 0 ∷ 0 ∷ []) n m) where
+      line-kept : (j : ℕ) → j < n → lineAt cl2 j ≡ lineAt cl j
+      line-kept j hj =
+          let low : j < 512 = omega (arith, fi .few) in
+          let ne : j ≡ n → ⊥ = λ z. omega arith in
+          rw (
+            f .others j 0 low (omega arith) ne,
+            f .others j 1 low (omega arith) ne,
+            f .others j 2 low (omega arith) ne,
+            f .others j 3 low (omega arith) ne,
+            f .others j 4 low (omega arith) ne,
+          )
+
+      -- ---- the table alone
+
+      filing-after : Filing cl2 (n + 1)
+      filing-after =
+          record {
+            eight =
+                λ a ha. byTest (eqb a m) (λ q. rw (eqb-true a m q) (omega (arith, f .many-here, eighth-left)))
+                (λ q. omega (arith, f .many-other a (eqb-false a m q), fi .eight a ha));
+            earlier = λ a i ha hi. byTest (eqb a m) (λ q. new a i ha hi (eqb-true a m q)) (λ q. other a i ha hi (eqb-false a m q));
+            small =
+                λ a ha. byTest (eqb a m) (λ q. rw (eqb-true a m q) (omega (arith, f .sum-here, claim-small, fi .small m trade-known)))
+                (λ q. omega (arith, f .sum-other a (eqb-false a m q), fi .small a ha));
+            few = omega (arith, pl .room);
+            long = f .same-length ∙ fi .long;
+          }
+        where
+          other : (a i : ℕ) → a < 128 → i < manyOf cl2 a → (a ≡ m → ⊥) → numberAt cl2 a i < n + 1
+          other a i ha hi ne =
+              let lt : i < manyOf cl a = omega (arith, f .many-other a ne) in
+              omega (arith, f .number-other a i ha (omega (arith, fi .eight a ha)) (λ p q. ne p), fi .earlier a i ha lt)
+
+          new : (a i : ℕ) → a < 128 → i < manyOf cl2 a → a ≡ m → numberAt cl2 a i < n + 1
+          new a i ha hi p =
+              let hi2 : i < manyOf cl m + 1 = rw (← f .many-here, ← p) hi in
+              rw p
+              (byTest (eqb i (manyOf cl m)) (λ q. rw (eqb-true i (manyOf cl m) q) (omega (arith, f .number-here)))
+              (λ q. let ne = eqb-false i (manyOf cl m) q in
+              let lt : i < manyOf cl m = omega (arith, ne) in
+              omega (arith, f .number-other m i trade-known (omega (arith, eighth-left)) (λ z1 z2. ne z2), fi .earlier m i trade-known lt)))
+
+      -- ---- beside the history
+
+      module _ (h : Header) (sizes : List ℕ) (e : Event) (past : History) (is : Heads h exchanges home sizes) (ec : h .close ≡ close) (rd : Reads e r)
+          (tv : Traded h past tr sn trades) (held : Lined h past cl n) where
+        sat : e .kind ≡ satisfactionKind
+        sat = rd .kind ∙ pl .kind
+
+        names-trade : field e 0 ≡ m
+        names-trade = sym (rd .fields 0) ∙ sym (em .0)
+
+        names-sender : field e 1 ≡ x - 1 + 1
+        names-sender = sym (rd .fields 1) ∙ sym (ex .0) ∙ omega (arith, ex .0, pl .from-one)
+
+        known : m < trades
+        known = omega (arith, em .0, pl .trade)
+
+        sends : x - 1 < h .exchanges
+        sends = let z = is .exchanges in omega (arith, ex .0, pl .from-one, pl .to-n)
+
+        home-in : home ≤ h .exchanges
+        home-in = let z = is .exchanges in omega (arith, ok .to-n)
+
+        why-is : why ≡ reason h (caseOf past e)
+        why-is =
+            ew ∙ ap reasonOf ek
+            ∙ reason-is h past tr sn trades m (x - 1) home tv known sends (is .home) (ok .from-one) home-in e names-trade names-sender
+            close (word r 2) (r .time) ec (sym (rd .fields 2)) (rd .time)
+
+        contracts-are : k .customers ≡ customers (caseOf past e)
+        contracts-are =
+            ap (λ (f : Facts). f .customers) ek
+            ∙ ap (λ (f : Facts). f .customers) (sym (facts-read tr sn m (x - 1) home close (word r 2) (r .time)))
+            ∙ customers-are h past tr sn trades m (x - 1) home tv known sends (is .home) (ok .from-one) home-in e names-trade names-sender
+
+        due-is : due ≡ claim h (caseOf past e)
+        due-is =
+            ed
+            ∙ claim-is h past tr sn trades m (x - 1) home tv known sends (is .home) (ok .from-one) home-in e names-trade names-sender
+            why (k .customers) (word r 3) why-is contracts-are (sym (rd .fields 3))
+
+        newest-line : lineAt cl2 n ≡ lineOf h past n e
+        newest-line = line-is cl2 n why (k .customers) due r h e past rd (f .here) why-is contracts-are due-is
+
+        all-lines : linesOf h (e ∷ past) ≡ linesOf h past ++ (lineOf h past n e ∷ [])
+        all-lines =
+            lines-new h e past sat ∙ ap (λ (i : ℕ). linesOf h past ++ (lineOf h past i e ∷ [])) (sym (held .numbered))
+
+        lines-after : linesFrom cl2 (n + 1) ≡ linesOf h (e ∷ past)
+        lines-after = lines-more cl2 n ∙ rw (lines-same cl cl2 n line-kept, held .lines, newest-line) (sym all-lines)
+
+        old-lines : (a : ℕ) → a < 128 → tradeLines cl2 a (manyOf cl a) ≡ ofTrade a (linesOf h past)
+        old-lines a ha =
+            trade-lines-same cl cl2 a (manyOf cl a)
+            (λ i hi. let same : numberAt cl2 a i ≡ numberAt cl a i =
+            f .number-other a i ha (omega (arith, fi .eight a ha)) (λ p q. let z : manyOf cl a ≡ manyOf cl m = ap (manyOf cl) p in omega arith) in
+            ap (lineAt cl2) same ∙ line-kept (numberAt cl a i) (fi .earlier a i ha hi))
+            ∙ held .by-trade a ha
+
+        by-trade-after : (a : ℕ) → a < 128 → tradeLines cl2 a (manyOf cl2 a) ≡ ofTrade a (linesOf h (e ∷ past))
+        by-trade-after a ha =
+            rw (all-lines, of-trade-more a (linesOf h past) (lineOf h past n e))
+            (byTest (eqb (field e 0) a)
+            (λ q. let z : a ≡ m = sym (eqb-true (field e 0) a q) ∙ names-trade in
+            in-its-trade h past n e a (ofTrade a (linesOf h past)) (tradeLines cl2 a (manyOf cl2 a)) (rw z (its-lines z)) q)
+            (λ q. let ne : a ≡ m → ⊥ = λ z. eqb-false (field e 0) a q (names-trade ∙ sym z) in
+            in-another h past n e a (ofTrade a (linesOf h past)) (tradeLines cl2 a (manyOf cl2 a)) (rw (f .many-other a ne) (old-lines a ha)) q))
+          where
+            its-lines : a ≡ m → tradeLines cl2 m (manyOf cl2 m) ≡ ofTrade m (linesOf h past) ++ (lineOf h past n e ∷ [])
+            its-lines z =
+                rw (f .many-here) (trade-lines-more cl2 m (manyOf cl m) ∙ rw (old-lines m trade-known, f .number-here, newest-line))
+
+        sums-after : (a : ℕ) → a < 128 → sumOf cl2 a ≡ sum (claimsOf (ofTrade a (linesOf h (e ∷ past))))
+        sums-after a ha =
+            rw (all-lines, sum-more a (linesOf h past) (lineOf h past n e))
+            (byTest (eqb (field e 0) a)
+            (λ q. let z : a ≡ m = sym (eqb-true (field e 0) a q) ∙ names-trade in
+            line-words h past n e a _ _ (rw z (f .sum-here ∙ rw (held .sums m trade-known, due-is))) q)
+            (λ q. other-line h past n e a _ _ (f .sum-other a (λ z. eqb-false (field e 0) a q (names-trade ∙ sym z)) ∙ held .sums a ha) q))
+
+        lined-after : Lined h (e ∷ past) cl2 (n + 1)
+        lined-after =
+            record {
+              numbered = omega (arith, held .numbered, count-cons isSatisfaction e past (eq-eqb (e .kind) satisfactionKind sat));
+              lines = lines-after;
+              by-trade = by-trade-after;
+              sums = sums-after;
+            }
+
+      pub order-taken : ClaimsStep r home exchanges close tr sn trades cl n cl2 (n + 1)
+      order-taken = record { filing = filing-after; so = lined-after }
+
+pub no-order : (r : Rec) (home exchanges close : ℕ) (tr sn : List ℕ) (trades : ℕ) (cl : List ℕ) (n : ℕ) → Filing cl n
+    → (r .kind ≡ satisfactionKind → ⊥) → ClaimsStep r home exchanges close tr sn trades cl n cl n
+no-order r home exchanges close tr sn trades cl n fi ne =
+    record {
+      filing = fi;
+      so = λ h sizes e past is ec rd tv held. lines-alone h past cl n e (λ z. ne (sym (rd .kind) ∙ z)) held;
+    }
+
+pub order-placeable : (r : Rec) (cl : List ℕ) (trades exchanges n : ℕ) → Placed r cl trades exchanges n → r .kind ≡ satisfactionKind
+    → Placeable r cl trades exchanges n
+order-placeable r cl trades exchanges n p k =
+    let g = p .fields k in
+    record {
+      kind = k;
+      from-one = g .sender .from-one;
+      to-n = g .sender .to-n;
+      size = g .size;
+      trade = p .trade k;
+      first = p .first k;
+      room = p .room k;
+    }
+
+-- a record that the reader has passed, and 7 and 8
+pub record-placed : (exchanges home : ℕ) (r : Rec) (cl : List ℕ) (trades n : ℕ) → RecOk exchanges home r
+    → (r .kind ≡ satisfactionKind → word r 0 < trades) → (r .kind ≡ satisfactionKind → manyOf cl (word r 0) < 8)
+    → (r .kind ≡ satisfactionKind → n < 512) → Placed r cl trades exchanges n
+record-placed exchanges home r cl trades n ok known eighth room =
+    record {
+      fields = λ k. let g = ok .satisfaction k in
+          record {
+            sender =
+                record {
+                  from-one = g .sender .from-one;
+                  to-n = g .sender .to-n;
+                  not-home = λ z. omega (arith, g .sender .from-one);
+                };
+            price = g .price;
+            price-from-one = g .price-from-one;
+            size = g .size;
+            size-from-one = g .size-from-one;
+          };
+      trade = known;
+      first = eighth;
+      room = room;
+    }
+
+pub ruleset line-laws = (facts-read, line-filed, trade-known, sender-known, order-fileable, order-taken, no-order, order-placeable)

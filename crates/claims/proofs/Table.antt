@@ -1,0 +1,186 @@
+-- The table of reasons, one law for each way out of the code: the tests above it failed, its own holds.
+use mathlib.Core.Path.{_≡_, refl, sym, ap, _∙_}
+use mathlib.Core.Bool.{Bool, true, false, not, _&&_}
+use mathlib.Core.List.{List, [], _∷_, _++_}
+use Prim.Native.Nat.{ℕ, _+_, _-_, _≤_, _<_, min}
+use native.Mathlib.Omega.{arith}
+use lib.Dec.{eqb, ltb}
+use borrow.Author.Tests.{eq-eqb, ne-eqb, le-leb, lt-leb, not-true}
+use Rattle.rules.specs.Basics.{if_then_else_, _==_, Row, _when_, _¦_, firstOf, all}
+use Rattle.rules.specs.Reasons.{threeMinutes}
+use Rattle.rules.proofs.Tests.{byTest, and-left, and-right}
+use Rattle.claims.specs.declared.Facts.{Facts}
+use Rattle.claims.specs.Reasons.{laterThan, lateAt, requiredOf, tradeReason, lateReason, priceReason, reasonOf, claimOf}
+
+pub later-by-words : (report allowed now a b : ℕ) → (a ≡ report) × (a < 4294967296) → (b ≡ now) × (b < 4294967296) → ltb (a + allowed) b ≡ laterThan report allowed now
+unfolding laterThan
+later-by-words report allowed now a b ea eb = rw (ea .0, eb .0)
+
+-- "if the report is at or after close less 300,000"
+module _ (report close now a c : ℕ) (ea : (a ≡ report) × (a < 4294967296)) (ec : (c ≡ close) × (c < 4294967296)) where
+  pub late-in-closing-minutes : c ≤ a + 300_000 → (b : Bool) → b ≡ laterThan report 60_000 now → b ≡ lateAt report close now
+  unfolding lateAt
+  late-in-closing-minutes h b e =
+      let k : close - 300_000 ≤ report = omega (arith, ea .0, ec .0) in rw (le-leb (close - 300_000) report k) e
+
+  pub late-before : a + 300_000 < c → (b : Bool) → b ≡ laterThan report 180_000 now → b ≡ lateAt report close now
+  unfolding lateAt
+  late-before h b e =
+      let k : report < close - 300_000 = omega (arith, ea .0, ec .0) in rw (lt-leb (close - 300_000) report k) e
+
+module _ (block price there : ℕ) where
+  pub required-of-block : block ≡ 1 → price ≡ requiredOf block price there
+  unfolding requiredOf
+  required-of-block p = rw (eq-eqb block 1 p)
+
+  pub required-otherwise : (block ≡ 1 → ⊥) → there ≡ requiredOf block price there
+  unfolding requiredOf
+  required-otherwise p = rw (ne-eqb block 1 p)
+
+module _ (why size customers traded : ℕ) where
+  pub claim-is-least : why ≡ 0 → (a b : ℕ) → a ≡ min customers traded → b ≡ min size a → b ≡ claimOf why size customers traded
+  unfolding claimOf
+  claim-is-least p a b ea eb = rw (eq-eqb why 0 p) (eb ∙ ap (min size) ea)
+
+  pub no-claim : (why ≡ 0 → ⊥) → 0 ≡ claimOf why size customers traded
+  unfolding claimOf
+  no-claim p = rw (ne-eqb why 0 p)
+
+pub ruleset word-laws = (later-by-words, late-in-closing-minutes, late-before, required-of-block, required-otherwise, claim-is-least, no-claim)
+
+module _ (side excused status home initiator complex : ℕ) where
+  pub reason-10 : side ≡ 0 → 10 ≡ tradeReason side excused status home initiator complex
+  unfolding tradeReason firstOf
+  reason-10 q = rw (eq-eqb side 0 q)
+
+  module _ (p10 : side ≡ 0 → ⊥) where
+    pub reason-2 : excused ≡ 1 → 2 ≡ tradeReason side excused status home initiator complex
+    unfolding tradeReason firstOf
+    reason-2 q = rw (ne-eqb side 0 p10, eq-eqb excused 1 q)
+
+    module _ (p2 : excused ≡ 1 → ⊥) where
+      pub reason-3 : status ≡ 1 → 3 ≡ tradeReason side excused status home initiator complex
+      unfolding tradeReason firstOf
+      reason-3 q = rw (ne-eqb side 0 p10, ne-eqb excused 1 p2, eq-eqb status 1 q)
+
+      module _ (p3 : status ≡ 1 → ⊥) where
+        module _ (b4 : Bool) (e4 : b4 ≡ (eqb initiator 0 && eqb home 1)) where
+          pub reason-4 : b4 ≡ true → 4 ≡ tradeReason side excused status home initiator complex
+          unfolding tradeReason firstOf
+          reason-4 q = rw (ne-eqb side 0 p10, ne-eqb excused 1 p2, ne-eqb status 1 p3, sym e4 ∙ q)
+
+          module _ (p4 : b4 ≡ false) where
+            pub reason-5 : status ≡ 2 → 5 ≡ tradeReason side excused status home initiator complex
+            unfolding tradeReason firstOf
+            reason-5 q = rw (ne-eqb side 0 p10, ne-eqb excused 1 p2, ne-eqb status 1 p3, sym e4 ∙ p4, eq-eqb status 2 q)
+
+            module _ (p5 : status ≡ 2 → ⊥) where
+              pub reason-6 : home ≡ 2 → 6 ≡ tradeReason side excused status home initiator complex
+              unfolding tradeReason firstOf
+              reason-6 q = rw (ne-eqb side 0 p10, ne-eqb excused 1 p2, ne-eqb status 1 p3, sym e4 ∙ p4, ne-eqb status 2 p5, eq-eqb home 2 q)
+
+              module _ (p6 : home ≡ 2 → ⊥) where
+                pub reason-7 : complex ≡ 1 → 7 ≡ tradeReason side excused status home initiator complex
+                unfolding tradeReason firstOf
+                reason-7 q = rw (ne-eqb side 0 p10, ne-eqb excused 1 p2, ne-eqb status 1 p3, sym e4 ∙ p4, ne-eqb status 2 p5, ne-eqb home 2 p6, eq-eqb complex 1 q)
+
+                module _ (p7 : complex ≡ 1 → ⊥) where
+                  pub no-trade-reason : 0 ≡ tradeReason side excused status home initiator complex
+                  unfolding tradeReason firstOf
+                  no-trade-reason = rw (ne-eqb side 0 p10, ne-eqb excused 1 p2, ne-eqb status 1 p3, sym e4 ∙ p4, ne-eqb status 2 p5, ne-eqb home 2 p6, ne-eqb complex 1 p7)
+
+module _ (initiator report close now : ℕ) where
+  module _ (l8 b8 : Bool) (d8 : l8 ≡ lateAt report close now) (e8 : b8 ≡ (eqb initiator 0 && l8)) where
+    pub reason-8 : b8 ≡ true → 8 ≡ lateReason initiator report close now
+    unfolding lateReason firstOf
+    reason-8 q = rw (sym (e8 ∙ ap (λ z. eqb initiator 0 && z) d8) ∙ q)
+
+    module _ (p8 : b8 ≡ false) where
+      module _ (l9 b9 : Bool) (d9 : l9 ≡ laterThan report 180_000 now) (e9 : b9 ≡ (not (eqb initiator 0) && l9)) where
+        pub reason-9 : b9 ≡ true → 9 ≡ lateReason initiator report close now
+        unfolding lateReason firstOf
+        reason-9 q = rw (sym (e8 ∙ ap (λ z. eqb initiator 0 && z) d8) ∙ p8, sym (e9 ∙ ap (λ z. not (eqb initiator 0) && z) d9) ∙ q)
+
+        module _ (p9 : b9 ≡ false) where
+          pub no-late-reason : 0 ≡ lateReason initiator report close now
+          unfolding lateReason firstOf
+          no-late-reason = rw (sym (e8 ∙ ap (λ z. eqb initiator 0 && z) d8) ∙ p8, sym (e9 ∙ ap (λ z. not (eqb initiator 0) && z) d9) ∙ p9)
+
+module _ (asked price block there contracts : ℕ) where
+  module _ (b11 : Bool) (e11 : b11 ≡ (eqb asked price && not (eqb block 1))) where
+    pub reason-11 : b11 ≡ true → 11 ≡ priceReason asked price block there contracts
+    unfolding priceReason firstOf
+    reason-11 q = rw (sym e11 ∙ q)
+
+    module _ (p11 : b11 ≡ false) where
+      module _ (need : ℕ) (e12 : need ≡ requiredOf block price there) where
+        pub reason-12 : (asked ≡ need → ⊥) → 12 ≡ priceReason asked price block there contracts
+        unfolding priceReason firstOf
+        reason-12 q = rw (sym e11 ∙ p11, ne-eqb asked (requiredOf block price there) (λ z. q (z ∙ sym e12)))
+
+        module _ (p12 : asked ≡ need) where
+          pub reason-13 : contracts ≡ 0 → 13 ≡ priceReason asked price block there contracts
+          unfolding priceReason firstOf
+          reason-13 q = rw (sym e11 ∙ p11, eq-eqb asked (requiredOf block price there) (p12 ∙ e12), eq-eqb contracts 0 q)
+
+          module _ (p13 : contracts ≡ 0 → ⊥) where
+            pub no-price-reason : 0 ≡ priceReason asked price block there contracts
+            unfolding priceReason firstOf
+            no-price-reason = rw (sym e11 ∙ p11, eq-eqb asked (requiredOf block price there) (p12 ∙ e12), ne-eqb contracts 0 p13)
+
+pub ruleset reason-laws = (reason-10, reason-2, reason-3, reason-4, reason-5, reason-6, reason-7, no-trade-reason, reason-8, reason-9, no-late-reason, reason-11, reason-12, reason-13, no-price-reason)
+
+-- ---- the three parts in their order are the whole table
+
+first-append : (a b : List Row) → all (λ (r : Row). not (r .number == 0)) a ≡ true → firstOf (a ++ b) ≡ (if firstOf a == 0 then firstOf b else firstOf a)
+unfolding firstOf all
+first-append [] b h = refl
+first-append (r ∷ a) b h =
+    byTest (r .holds)
+    (λ z. rw (z, not-true (eqb (r .number) 0) (and-left (not (eqb (r .number) 0)) _ h)))
+    (λ z. rw z (first-append a b (and-right (not (eqb (r .number) 0)) _ h)))
+
+module _ (k : Facts) where
+  parts : reasonOf k
+      ≡ (if tradeReason (k .side) (k .excused) (k .status) (k .home) (k .initiator) (k .complex) == 0
+      then
+      (if lateReason (k .initiator) (k .report) (k .close) (k .time) == 0
+      then priceReason (k .asked) (k .price) (k .block) (k .there) (k .customers)
+      else lateReason (k .initiator) (k .report) (k .close) (k .time))
+      else tradeReason (k .side) (k .excused) (k .status) (k .home) (k .initiator) (k .complex))
+  unfolding reasonOf tradeReason lateReason priceReason all
+  parts =
+      first-append
+      (10 when k .side == 0 ¦ 2 when k .excused == 1 ¦ 3 when k .status == 1 ¦ 4 when k .initiator == 0 && k .home == 1
+      ¦ 5 when k .status == 2 ¦ 6 when k .home == 2 ¦ 7 when k .complex == 1 ¦ [])
+      (8 when k .initiator == 0 && lateAt (k .report) (k .close) (k .time)
+      ¦ 9 when not (k .initiator == 0) && laterThan (k .report) threeMinutes (k .time)
+      ¦ 11 when k .asked == k .price && not (k .block == 1)
+      ¦ 12 when not (k .asked == requiredOf (k .block) (k .price) (k .there))
+      ¦ 13 when k .customers == 0
+      ¦ [])
+      refl
+      ∙ ap (λ (later : ℕ). if tradeReason (k .side) (k .excused) (k .status) (k .home) (k .initiator) (k .complex) == 0
+      then later else tradeReason (k .side) (k .excused) (k .status) (k .home) (k .initiator) (k .complex))
+      (first-append
+      (8 when k .initiator == 0 && lateAt (k .report) (k .close) (k .time)
+      ¦ 9 when not (k .initiator == 0) && laterThan (k .report) threeMinutes (k .time)
+      ¦ [])
+      (11 when k .asked == k .price && not (k .block == 1)
+      ¦ 12 when not (k .asked == requiredOf (k .block) (k .price) (k .there))
+      ¦ 13 when k .customers == 0
+      ¦ [])
+      refl)
+
+  module _ (t : ℕ) (et : t ≡ tradeReason (k .side) (k .excused) (k .status) (k .home) (k .initiator) (k .complex)) where
+    pub reason-by-trade : (t ≡ 0 → ⊥) → t ≡ reasonOf k
+    reason-by-trade p = rw (parts, ← et, ne-eqb t 0 p)
+
+    module _ (z : t ≡ 0) (l : ℕ) (el : l ≡ lateReason (k .initiator) (k .report) (k .close) (k .time)) where
+      pub reason-by-time : (l ≡ 0 → ⊥) → l ≡ reasonOf k
+      reason-by-time p = rw (parts, ← et, ← el, eq-eqb t 0 z, ne-eqb l 0 p)
+
+      pub reason-by-price : l ≡ 0 → (c : ℕ) → c ≡ priceReason (k .asked) (k .price) (k .block) (k .there) (k .customers) → c ≡ reasonOf k
+      reason-by-price p c ec = rw (parts, ← et, ← el, eq-eqb t 0 z, eq-eqb l 0 p) ec
+
+pub ruleset whole-laws = (reason-by-trade, reason-by-time, reason-by-price)

@@ -1,0 +1,113 @@
+-- The lines of one trade, found by their numbers.
+use mathlib.Core.Path.{_≡_, refl, sym, ap, _∙_}
+use mathlib.Core.List.{List, [], _∷_, _++_, map}
+use Prim.Native.Nat.{ℕ, zero, suc, _+_, _*_, _<_, _≤_}
+use native.Mathlib.Omega.{arith}
+use native.Mathlib.Numerals.{add-one}
+use lib.ListN.{getD, length, set, take, length-set, length-append}
+use lib.Seq.{take-suc-set}
+use borrow.Author.Tests.{eq-eqb}
+use Rattle.rules.specs.Basics.{below}
+use Rattle.rules.specs.Header.{Header}
+use Rattle.rules.specs.Record.{Event, field, isSatisfaction, satisfactionKind}
+use Rattle.rules.specs.Journal.{History, count}
+use Rattle.rules.specs.Due.{Line, lineOf, linesOf, ofTrade, claimsOf}
+use Rattle.rules.proofs.Journals.{Arrived}
+use Rattle.rules.proofs.TradeLines.{trade-has-at-most-a-line-for-each-exchange}
+use Rattle.claims.specs.Lines.{lineAt, numberAt, manyOf, tradeLines, Lined, Filing, Findable, ManyIs, NumberIs, contractsOf, Gathering, Gathered}
+use Rattle.claims.proofs.Lines.{lines-new, of-trade-more, in-its-trade, trade-lines-more}
+
+pub trade-findable : (cl : List ℕ) (n m : ℕ) → Filing cl n → m < 128 → Findable cl m
+trade-findable cl n m fi hm =
+    record { trade = hm; eight = fi .eight m hm; numbers = λ i hi. omega (arith, fi .earlier m i hm hi, fi .few) }
+
+module _ (cl : List ℕ) (m : ℕ) (f : Findable cl m) where
+  pub many-read : (r : ℕ) → (r ≡ getD cl ((640 + m) * 8) 0) × (r < 4294967296) → ManyIs cl m r
+  unfolding manyOf
+  many-read r e = record { is = e .0; few = omega (arith, e .0, f .eight) }
+
+  pub number-read : (i r : ℕ) → i < manyOf cl m → (r ≡ getD cl ((512 + m) * 8 + i) 0) × (r < 4294967296) → NumberIs cl m i r
+  unfolding numberAt
+  number-read i r h e = record { is = e .0; low = omega (arith, e .0, f .numbers i h) }
+
+map-snoc : (f : Line → ℕ) (ls : List Line) (l : Line) → map f (ls ++ (l ∷ [])) ≡ map f ls ++ (f l ∷ [])
+map-snoc f [] l = refl
+map-snoc f (x ∷ ls) l = ap (λ (r : List ℕ). f x ∷ r) (map-snoc f ls l)
+
+-- one word more of a column
+column-more : (cl : List ℕ) (m i j v : ℕ) (of : Line → ℕ) (words : List ℕ) → j ≡ numberAt cl m i → v ≡ of (lineAt cl j) → i < length words
+    → take i words ≡ map of (tradeLines cl m i) → take (i + 1) (set words i v) ≡ map of (tradeLines cl m (i + 1))
+column-more cl m i j v of words ej ev h same =
+    let more = trade-lines-more cl m i in
+    rw (trade-lines-more cl m i, add-one i) (take-suc-set words i v h ∙ rw (same, ev, ej) (sym (map-snoc of (tradeLines cl m i) (lineAt cl (numberAt cl m i)))))
+
+module _ (cl : List ℕ) (m k : ℕ) (mk : ManyIs cl m k) (claim customers : List ℕ) where
+  pub none-gathered : length claim ≡ 8 → length customers ≡ 8 → Gathering cl m k 0 claim customers
+  unfolding tradeLines below
+  none-gathered lc lu = record { claims = refl; contracts = refl; low = omega arith; claim-words = lc; customer-words = lu }
+
+  module _ (i : ℕ) (g : Gathering cl m k i claim customers) where
+    pub one-more-gathered : i < k → (j : ℕ) → NumberIs cl m i j
+        → Gathering cl m k (i + 1) (set claim i (getD cl (j * 8 + 4) 0)) (set customers i (getD cl (j * 8 + 3) 0))
+    one-more-gathered h j nj =
+        record {
+          claims = column-more cl m i j (getD cl (j * 8 + 4) 0) (λ l. l .claim) claim (nj .is) refl (omega (arith, mk .few, g .claim-words)) (g .claims);
+          contracts = column-more cl m i j (getD cl (j * 8 + 3) 0) (λ l. l .customers) customers (nj .is) refl (omega (arith, mk .few, g .customer-words)) (g .contracts);
+          low = omega arith;
+          claim-words = simp length-set (g .claim-words);
+          customer-words = simp length-set (g .customer-words);
+        }
+
+    pub all-gathered : k ≤ i → Gathered cl m claim customers k
+    all-gathered h =
+        let e : i ≡ k = omega (arith, g .low) in
+        let e2 : i ≡ manyOf cl m = e ∙ mk .is in
+        record {
+          few = mk .few;
+          claims = rw (← e) (g .claims ∙ ap (λ (j : ℕ). claimsOf (tradeLines cl m j)) e2);
+          contracts = rw (← e) (g .contracts ∙ ap (λ (j : ℕ). contractsOf (tradeLines cl m j)) e2);
+          many = mk .is;
+          claim-words = g .claim-words;
+          customer-words = g .customer-words;
+        }
+
+pub ruleset gather-laws = (many-read, number-read, none-gathered, one-more-gathered, all-gathered)
+
+no-trade-lines : (cl : List ℕ) (m : ℕ) → length (tradeLines cl m 0) ≡ 0
+unfolding tradeLines below
+no-trade-lines cl m = refl
+
+trade-lines-long : (cl : List ℕ) (m j : ℕ) → length (tradeLines cl m j) ≡ j
+trade-lines-long cl m zero = no-trade-lines cl m
+trade-lines-long cl m (suc j) =
+    ap (λ (i : ℕ). length (tradeLines cl m i)) (sym (add-one j)) ∙ ap length (trade-lines-more cl m j)
+    ∙ length-append (tradeLines cl m j) (lineAt cl (numberAt cl m j) ∷ []) ∙ rw (trade-lines-long cl m j) (add-one j)
+
+-- what was gathered, of a history
+pub record LinesGathered (h : Header) (past : History) (m : ℕ) (claim customers : List ℕ) (k : ℕ) : Type 0 where
+  pub many : k ≡ length (ofTrade m (linesOf h past))
+  pub claims : take k claim ≡ claimsOf (ofTrade m (linesOf h past))
+  pub contracts : take k customers ≡ contractsOf (ofTrade m (linesOf h past))
+
+pub gathered-lines : (h : Header) (past : History) (cl : List ℕ) (n m : ℕ) (claim customers : List ℕ) (k : ℕ) → m < 128 → Lined h past cl n
+    → Gathered cl m claim customers k → LinesGathered h past m claim customers k
+gathered-lines h past cl n m claim customers k hm held g =
+    record {
+      many = g .many ∙ sym (trade-lines-long cl m (manyOf cl m)) ∙ ap length (held .by-trade m hm);
+      claims = g .claims ∙ ap claimsOf (held .by-trade m hm);
+      contracts = g .contracts ∙ ap contractsOf (held .by-trade m hm);
+    }
+
+-- a Satisfaction Order of an accepted journal finds room under its trade
+pub eighth-left : {h : Header} {past : History} {e : Event} (cl : List ℕ) (n m : ℕ) → Lined h past cl n → Arrived h (e ∷ past) → h .exchanges ≤ 8
+    → e .kind ≡ satisfactionKind → field e 0 ≡ m → m < 128 → manyOf cl m < 8
+eighth-left {h} {past} {e} cl n m held v few k names hm =
+    let l : Line = lineOf h past (count isSatisfaction past) e in
+    let all = trade-has-at-most-a-line-for-each-exchange v m in
+    let many : manyOf cl m ≡ length (ofTrade m (linesOf h past)) = sym (trade-lines-long cl m (manyOf cl m)) ∙ ap length (held .by-trade m hm) in
+    let with-it : ofTrade m (linesOf h (e ∷ past)) ≡ ofTrade m (linesOf h past) ++ (l ∷ []) =
+    ap (ofTrade m) (lines-new h e past k) ∙ of-trade-more m (linesOf h past) l
+    ∙ sym (in-its-trade h past (count isSatisfaction past) e m (ofTrade m (linesOf h past)) (ofTrade m (linesOf h past) ++ (l ∷ [])) refl (eq-eqb (field e 0) m names)) in
+    let one-more : length (ofTrade m (linesOf h (e ∷ past))) ≡ length (ofTrade m (linesOf h past)) + 1 =
+    ap length with-it ∙ length-append (ofTrade m (linesOf h past)) (l ∷ []) in
+    omega arith

@@ -1,0 +1,22 @@
+use Rattle.claims.proofs.Table.{word-laws}
+use borrow.Author.Needs.{needs}
+use Rattle.claims.proofs.claim_of.Statement.{statement}
+use Rattle.claims.proofs.claim_of.Tie as tie
+use Rattle.claims.proofs.claim_of.Reads as reads
+use Rattle.claims.proofs.claim_of.Lts as lts
+use Rattle.trades.proofs.least.Reads as least-reads
+
+least-requires : tie.Need-least-requires
+least-requires c κs = search (word-laws, needs)
+
+least-requires-2 : tie.Need-least-requires-2
+least-requires-2 c κs = search (word-laws, needs)
+
+returns : tie.Need-returns
+returns c = search (word-laws, needs)
+
+returns-2 : tie.Need-returns-2
+returns-2 c = search (word-laws, needs)
+
+pub claim-of-spec : {M : Type 1} → statement M
+claim-of-spec = tie.close (tie.spec least-requires least-requires-2 returns returns-2)

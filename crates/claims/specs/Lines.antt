@@ -1,0 +1,147 @@
+-- The table of Satisfaction Orders: a row of eight words for each (trade, size, reason, customer contracts, claim), and behind them
+-- for each trade the numbers of its lines in their order, how many they are, and the sum of their claims.
+use mathlib.Core.Path.{_≡_}
+use mathlib.Core.List.{List, _∷_, map}
+use Prim.Native.Nat.{ℕ, _+_, _*_, _<_, _≤_}
+use lib.ListN.{getD, length, take}
+use Rattle.rules.specs.Basics.{below, sum}
+use Rattle.rules.specs.Limits.{mostTrades, mostSatisfactionOrders, mostContracts}
+use Rattle.rules.specs.Header.{Header}
+use Rattle.rules.specs.Record.{Event, isSatisfaction, satisfactionKind}
+use Rattle.rules.specs.Journal.{History, count}
+use Rattle.rules.specs.Due.{Line, linesOf, ofTrade, claimsOf, due}
+use Rattle.rows.specs.Rows.{Reads, word, SatisfactionOk}
+use Rattle.rows.specs.declared.Rec.{Rec}
+use Rattle.orders.specs.Orders.{Heads}
+use Rattle.trades.specs.Trades.{Traded}
+
+abbrev pub lineAt : List ℕ → ℕ → Line
+lineAt cl k =
+    record {
+      number = k;
+      trade = getD cl (k * 8 + 0) 0;
+      size = getD cl (k * 8 + 1) 0;
+      reason = getD cl (k * 8 + 2) 0;
+      customers = getD cl (k * 8 + 3) 0;
+      claim = getD cl (k * 8 + 4) 0;
+    }
+
+-- the first n lines
+unfoldable pub linesFrom : List ℕ → ℕ → List Line
+linesFrom cl n = map (lineAt cl) (below n)
+
+-- ---- a trade's rows
+
+unfoldable pub numberAt : List ℕ → ℕ → ℕ → ℕ
+numberAt cl m i = getD cl ((512 + m) * 8 + i) 0
+
+unfoldable pub manyOf : List ℕ → ℕ → ℕ
+manyOf cl m = getD cl ((640 + m) * 8) 0
+
+unfoldable pub sumOf : List ℕ → ℕ → ℕ
+sumOf cl m = getD cl ((640 + m) * 8 + 1) 0
+
+-- its lines, found by their numbers
+unfoldable pub tradeLines : List ℕ → ℕ → ℕ → List Line
+tradeLines cl m k = map (λ i. lineAt cl (numberAt cl m i)) (below k)
+
+-- ---- the table beside the history
+
+pub record Lined (h : Header) (past : History) (cl : List ℕ) (n : ℕ) : Type 0 where
+  pub numbered : n ≡ count isSatisfaction past
+  pub lines : linesFrom cl n ≡ linesOf h past
+  pub by-trade : (m : ℕ) → m < mostTrades → tradeLines cl m (manyOf cl m) ≡ ofTrade m (linesOf h past)
+  pub sums : (m : ℕ) → m < mostTrades → sumOf cl m ≡ sum (claimsOf (ofTrade m (linesOf h past)))
+
+-- ---- what holds of the table alone
+
+pub record Filing (cl : List ℕ) (n : ℕ) : Type 0 where
+  pub eight : (m : ℕ) → m < mostTrades → manyOf cl m ≤ 8
+  pub earlier : (m i : ℕ) → m < mostTrades → i < manyOf cl m → numberAt cl m i < n
+  pub small : (m : ℕ) → m < mostTrades → sumOf cl m ≤ n * mostContracts
+  pub few : n ≤ mostSatisfactionOrders
+  pub long : length cl ≡ 6144
+
+-- line n, of trade m, with this row can be filed
+pub record Fileable (cl row : List ℕ) (n m : ℕ) : Type 0 where
+  pub line : n < mostSatisfactionOrders
+  pub trade : m < mostTrades
+  pub eighth : getD cl ((640 + m) * 8) 0 < 8
+  pub sum-small : getD cl ((640 + m) * 8 + 1) 0 ≤ 51_200_000
+  pub claim-small : getD row 4 0 ≤ mostContracts
+  pub long : length cl ≡ 6144
+
+-- line n, of trade m, has come: its row is put, and nothing else is changed but its trade's words
+pub record Filed (cl cl2 row : List ℕ) (n m : ℕ) : Type 0 where
+  pub here : (i : ℕ) → i < 8 → getD cl2 (n * 8 + i) 0 ≡ getD row i 0
+  pub others : (k i : ℕ) → k < mostSatisfactionOrders → i < 8 → (k ≡ n → ⊥) → getD cl2 (k * 8 + i) 0 ≡ getD cl (k * 8 + i) 0
+  pub number-here : numberAt cl2 m (manyOf cl m) ≡ n
+  pub number-other : (a i : ℕ) → a < mostTrades → i < 8 → (a ≡ m → i ≡ manyOf cl m → ⊥) → numberAt cl2 a i ≡ numberAt cl a i
+  pub many-here : manyOf cl2 m ≡ manyOf cl m + 1
+  pub many-other : (a : ℕ) → (a ≡ m → ⊥) → manyOf cl2 a ≡ manyOf cl a
+  pub sum-here : sumOf cl2 m ≡ sumOf cl m + getD row 4 0
+  pub sum-other : (a : ℕ) → (a ≡ m → ⊥) → sumOf cl2 a ≡ sumOf cl a
+  pub same-length : length cl2 ≡ length cl
+
+-- ---- contracts
+
+-- a record that has its place in the table, if it is a Satisfaction Order: its trade is known, and has fewer than eight lines yet
+pub record Placed (r : Rec) (cl : List ℕ) (trades exchanges n : ℕ) : Type 0 where
+  pub fields : r .kind ≡ satisfactionKind → SatisfactionOk exchanges 0 r
+  pub trade : r .kind ≡ satisfactionKind → word r 0 < trades
+  pub first : r .kind ≡ satisfactionKind → manyOf cl (word r 0) < 8
+  pub room : r .kind ≡ satisfactionKind → n < mostSatisfactionOrders
+
+-- a Satisfaction Order for which there is room
+pub record Placeable (r : Rec) (cl : List ℕ) (trades exchanges n : ℕ) : Type 0 where
+  pub kind : r .kind ≡ satisfactionKind
+  pub from-one : 1 ≤ word r 1
+  pub to-n : word r 1 ≤ exchanges
+  pub size : word r 3 ≤ mostContracts
+  pub trade : word r 0 < trades
+  pub first : manyOf cl (word r 0) < 8
+  pub room : n < mostSatisfactionOrders
+
+-- a record of any kind
+pub record ClaimsStep (r : Rec) (home exchanges close : ℕ) (tr sn : List ℕ) (trades : ℕ) (cl : List ℕ) (n : ℕ) (cl2 : List ℕ) (n2 : ℕ) : Type 0 where
+  pub filing : Filing cl2 n2
+  pub so : (h : Header) (sizes : List ℕ) (e : Event) (past : History) → Heads h exchanges home sizes → h .close ≡ close → Reads e r
+      → Traded h past tr sn trades → Lined h past cl n → Lined h (e ∷ past) cl2 n2
+
+-- ---- the lines of one trade
+
+pub record Findable (cl : List ℕ) (m : ℕ) : Type 0 where
+  pub trade : m < mostTrades
+  pub eight : manyOf cl m ≤ 8
+  pub numbers : (i : ℕ) → i < manyOf cl m → numberAt cl m i < mostSatisfactionOrders
+
+pub record ManyIs (cl : List ℕ) (m r : ℕ) : Type 0 where
+  pub is : r ≡ manyOf cl m
+  pub few : r ≤ 8
+
+pub record NumberIs (cl : List ℕ) (m i r : ℕ) : Type 0 where
+  pub is : r ≡ numberAt cl m i
+  pub low : r < mostSatisfactionOrders
+
+abbrev pub contractsOf : List Line → List ℕ
+contractsOf ls = map (λ (l : Line). l .customers) ls
+
+-- the first i of them
+pub record Gathering (cl : List ℕ) (m k i : ℕ) (claim customers : List ℕ) : Type 0 where
+  pub claims : take i claim ≡ claimsOf (tradeLines cl m i)
+  pub contracts : take i customers ≡ contractsOf (tradeLines cl m i)
+  pub low : i ≤ k
+  pub claim-words : length claim ≡ 8
+  pub customer-words : length customers ≡ 8
+
+pub record Gathered (cl : List ℕ) (m : ℕ) (claim customers : List ℕ) (k : ℕ) : Type 0 where
+  pub few : k ≤ 8
+  pub claims : take k claim ≡ claimsOf (tradeLines cl m (manyOf cl m))
+  pub contracts : take k customers ≡ contractsOf (tradeLines cl m (manyOf cl m))
+  pub many : k ≡ manyOf cl m
+  pub claim-words : length claim ≡ 8
+  pub customer-words : length customers ≡ 8
+
+pub record DueIs (cl tr : List ℕ) (m r : ℕ) : Type 0 where
+  pub so : (h : Header) (past : History) (sn : List ℕ) (trades n : ℕ) → m < trades → m < mostTrades → Traded h past tr sn trades
+      → Lined h past cl n → r ≡ due (record { header = h; history = past }) m

@@ -1,0 +1,6 @@
+pub mod Inside
+pub mod Reaching
+pub mod Walking
+pub mod Looping
+pub mod Entries
+pub mod Settled

@@ -1,0 +1,212 @@
+-- What is printed of a record: the kind decides, one law for each.
+use mathlib.Core.Path.{_≡_, _∙_, sym, ap}
+use mathlib.Core.Bool.{Bool, true, false, not}
+use mathlib.Core.List.{List}
+use Prim.Native.Nat.{ℕ, _<_, _≤_}
+use native.Mathlib.Omega.{arith}
+use lib.Dec.{eqb}
+use lib.ListN.{length}
+use borrow.Author.Tests.{eq-eqb, ne-eqb, not-true, not-false}
+use Rattle.rules.specs.Header.{Header}
+use Rattle.rules.specs.Record as paper
+use Rattle.rules.specs.Record.{Event, field, quoteKind, tradeKind, sentKind, receivedKind}
+use Rattle.rules.specs.Verdicts.{verdict, sentOrder, receivedOrder}
+use Rattle.rules.specs.PrintedDay.{oneLine, judged}
+use Rattle.rules.proofs.Tests.{and-no}
+use Rattle.rows.specs.Rows.{Reads, OrderOk, RecOk}
+use Rattle.rows.specs.declared.Rec.{Rec}
+use Rattle.quotes.specs.Tables.{Within}
+use Rattle.orders.specs.Orders.{Headed, Heads, asOrder, OrderIs, sentAs, dutyAs, SentIs, DutyIs}
+use Rattle.home.specs.Home.{homesOf, QuoteIs, SameQuote, againstAs, AgainstIs}
+use Rattle.through.proofs.TradeVerdicts.{trade-is, series-low}
+use Rattle.through.specs.Trades.{TradeIs, CountIs, BlockIs}
+use Rattle.market.specs.Judged.{judgedAs, bitOf, QuoteSays, SentSays, DutySays, JudgedIs}
+use Rattle.market.specs.declared.Judged.{Judged}
+use Rattle.market.specs.declared.Judged.the-variants.{Nothing, Q, S, R, T}
+use Rattle.home.specs.declared.HomeQuote.{HomeQuote}
+use Rattle.home.specs.declared.Against.{Against}
+use Rattle.home.specs.declared.Against.the-variants.{Clear, Locked, Crossed}
+use Rattle.orders.specs.declared.Order.{Order}
+use Rattle.orders.specs.declared.Sent.{Sent}
+use Rattle.orders.specs.declared.Sent.the-variants.{Fine, NotShown, NotBest}
+use Rattle.orders.specs.declared.Duty.{Duty}
+use Rattle.orders.specs.declared.Duty.the-variants.{NoDuty, Whole, AtLeast}
+use Rattle.through.specs.declared.Trade.{Trade}
+
+-- ---- a verdict as a line
+
+module _ (v : Against) where
+  pub says-clear : v ≡ Clear → QuoteSays v (Q 0 0 0)
+  unfolding judgedAs againstAs
+  says-clear e = record { so = λ n. rw e }
+
+  module _ (x side y : ℕ) where
+    pub says-locked : v ≡ Locked x side → (y ≡ side) × (y < 4294967296) → QuoteSays v (Q 1 x y)
+    unfolding judgedAs againstAs
+    says-locked e z = record { so = λ n. rw (e, z .0) }
+
+    pub says-crossed : v ≡ Crossed x side → (y ≡ side) × (y < 4294967296) → QuoteSays v (Q 2 x y)
+    unfolding judgedAs againstAs
+    says-crossed e z = record { so = λ n. rw (e, z .0) }
+
+module _ (v : Sent) (number : ℕ) where
+  pub says-fine : v ≡ Fine → SentSays v number (S 0 number 0)
+  unfolding judgedAs sentAs
+  says-fine e = record { so = λ n. rw e }
+
+  pub says-not-shown : v ≡ NotShown → SentSays v number (S 1 number 0)
+  unfolding judgedAs sentAs
+  says-not-shown e = record { so = λ n. rw e }
+
+  pub says-not-best : v ≡ NotBest → SentSays v number (S 2 number 0)
+  unfolding judgedAs sentAs
+  says-not-best e = record { so = λ n. rw e }
+
+module _ (v : Duty) (x y : ℕ) where
+  pub says-none : v ≡ NoDuty x → (y ≡ x) × (y < 4294967296) → DutySays v (R 0 0 y)
+  unfolding judgedAs dutyAs
+  says-none e z = record { so = λ n. rw (e, z .0) }
+
+  pub says-whole : v ≡ Whole x → (y ≡ x) × (y < 4294967296) → DutySays v (R 1 y 0)
+  unfolding judgedAs dutyAs
+  says-whole e z = record { so = λ n. rw (e, z .0) }
+
+  pub says-least : v ≡ AtLeast x → (y ≡ x) × (y < 4294967296) → DutySays v (R 2 y 0)
+  unfolding judgedAs dutyAs
+  says-least e z = record { so = λ n. rw (e, z .0) }
+
+pub bit-one : (b : Bool) → b ≡ true → 1 ≡ bitOf b
+unfolding bitOf
+bit-one b e = rw e
+
+pub bit-none : (b : Bool) → b ≡ false → 0 ≡ bitOf b
+unfolding bitOf
+bit-none b e = rw e
+
+-- ---- what the code took out of a record is what the paper names
+
+module _ (r : Rec) (e : Event) (reads : Reads e r) where
+  pub quote-is : (v : HomeQuote) → QuoteIs r v → SameQuote v (paper.quote e)
+  quote-is v is =
+      record {
+        series = sym (is .series ∙ reads .fields 1);
+        bid = sym (is .bid ∙ reads .fields 2);
+        offer = sym (is .offer ∙ reads .fields 5);
+      }
+
+  pub order-is : (o : Order) → OrderIs r o → asOrder o ≡ paper.order e
+  unfolding asOrder
+  order-is o is =
+      rw (is .type ∙ reads .fields 0, is .other ∙ reads .fields 1, is .series ∙ reads .fields 2, is .side ∙ reads .fields 3, is .price ∙ reads .fields 4, is .size ∙ reads .fields 5)
+
+  kind-is : (k : ℕ) → r .kind ≡ k → eqb (e .kind) k ≡ true
+  kind-is k z = eq-eqb (e .kind) k (reads .kind ∙ z)
+
+  kind-not : (k : ℕ) → (r .kind ≡ k → ⊥) → eqb (e .kind) k ≡ false
+  kind-not k ne = ne-eqb (e .kind) k (λ z. ne (sym (reads .kind) ∙ z))
+
+  -- of one kind, and so of no other
+  kind-other : (k j : ℕ) → r .kind ≡ k → (k ≡ j → ⊥) → eqb (e .kind) j ≡ false
+  kind-other k j z ne = kind-not j (λ y. ne (sym z ∙ y))
+
+-- ---- the kind decides
+
+module _ (q st : List ℕ) (n home : ℕ) (sizes : List ℕ) (sent trades : ℕ) (r : Rec) where
+  module _ (k1 : r .kind ≡ quoteKind) (b : Bool) (eb : b ≡ homesOf r home) where
+    -- the same test, of the event
+    home-is : (h : Header) (e : Event) → Heads h n home sizes → Reads e r → eqb (field e 0) (h .home) ≡ b
+    unfolding homesOf
+    home-is h e hd reads = rw (← reads .fields 0, hd .home, eb)
+
+    pub judged-away : not b ≡ true → JudgedIs q st n home sizes sent trades r Nothing
+    unfolding judged judgedAs
+    judged-away z =
+        record {
+          so = λ h e past hd reads held hs es et.
+              rw (home-is h e hd reads ∙ not-true b z, and-no (eqb (e .kind) 1), kind-other r e reads 1 4 k1 (λ z. omega arith), kind-other r e reads 1 6 k1 (λ z. omega arith), kind-other r e reads 1 3 k1 (λ z. omega arith));
+        }
+
+    pub judged-home : not b ≡ false → (v : Against) (a : Judged) → QuoteSays v a → (w : HomeQuote) → AgainstIs q n home w v → QuoteIs r w
+        → JudgedIs q st n home sizes sent trades r a
+    unfolding judged
+    judged-home z v a says w against is =
+        record {
+          so = λ h e past hd reads held hs es et.
+              rw (kind-is r e reads 1 k1, home-is h e hd reads ∙ not-false b z)
+              (says .so (length past) ∙ ap (oneLine (length past) "Q") (against .so h past (paper.quote e) (hd .exchanges) (hd .home) (quote-is r e reads w is) held));
+        }
+
+  module _ (n1 : r .kind ≡ quoteKind → ⊥) where
+    pub judged-sent : r .kind ≡ sentKind → (v : Sent) (a : Judged) → SentSays v sent a → (o : Order) → SentIs q n o v → OrderIs r o
+        → JudgedIs q st n home sizes sent trades r a
+    unfolding judged
+    judged-sent k v a says o is taken =
+        record {
+          so = λ h e past hd reads held hs es et.
+              rw (kind-not r e reads 1 n1, kind-is r e reads 4 k, ← es)
+              (says .so (length past) ∙ ap (λ y. oneLine (length past) "S" (verdict y sent 0)) (is .so h past (hd .exchanges) held ∙ ap (sentOrder h past) (order-is r e reads o taken)));
+        }
+
+    module _ (n4 : r .kind ≡ sentKind → ⊥) where
+      pub judged-received : r .kind ≡ receivedKind → (v : Duty) (a : Judged) → DutySays v a → (o : Order) → DutyIs q st n home sizes o v → OrderIs r o
+          → JudgedIs q st n home sizes sent trades r a
+      unfolding judged
+      judged-received k v a says o is taken =
+          record {
+            so = λ h e past hd reads held hs es et.
+                rw (kind-not r e reads 1 n1, kind-not r e reads 4 n4, kind-is r e reads 6 k)
+                (says .so (length past) ∙ ap (oneLine (length past) "R") (is .so h past hd held hs ∙ ap (receivedOrder h past) (order-is r e reads o taken)));
+          }
+
+      module _ (n6 : r .kind ≡ receivedKind → ⊥) where
+        pub judged-trade : r .kind ≡ tradeKind → (c y : ℕ) (t : Trade) → CountIs q n home t c → (b : Bool) → BlockIs q n t b → y ≡ bitOf b → TradeIs r t
+            → JudgedIs q st n home sizes sent trades r (T trades c y)
+        unfolding judged judgedAs bitOf
+        judged-trade k c y t counted b block ey is =
+            record {
+              so = λ h e past hd reads held hs es et.
+                  let same = trade-is r e reads t is in
+                  rw (kind-not r e reads 1 n1, kind-not r e reads 4 n4, kind-not r e reads 6 n6, kind-is r e reads 3 k, ← et, ← counted .so h past (paper.trade e) (hd .exchanges) (hd .home) same held, ← block .so h past (paper.trade e) (hd .exchanges) same held, ey);
+            }
+
+        pub judged-other : (r .kind ≡ tradeKind → ⊥) → JudgedIs q st n home sizes sent trades r Nothing
+        unfolding judged judgedAs
+        judged-other n3 =
+            record {
+              so = λ h e past hd reads held hs es et.
+                  rw (kind-not r e reads 1 n1, kind-not r e reads 4 n4, kind-not r e reads 6 n6, kind-not r e reads 3 n3);
+            }
+
+-- ---- what the callees require
+
+module _ (n home : ℕ) (r : Rec) (ok : RecOk n home r) where
+  pub quote-series : (v : HomeQuote) → QuoteIs r v → r .kind ≡ quoteKind → v .series < 32
+  quote-series v is k = let g = ok .quote k in omega (arith, g .series, is .series)
+
+  pub trade-series : (t : Trade) → TradeIs r t → r .kind ≡ tradeKind → t .series < 32
+  trade-series t is k = series-low n r t (ok .trade k) is
+
+  module _ (o : Order) (is : OrderIs r o) where
+    order-from : OrderOk n home r → 1 ≤ o .other
+    order-from g = omega (arith, g .other .from-one, is .other)
+
+    order-to : OrderOk n home r → o .other ≤ n
+    order-to g = omega (arith, g .other .to-n, is .other)
+
+    order-series : OrderOk n home r → o .series < 32
+    order-series g = omega (arith, g .series, is .series)
+
+    pub sent-within : r .kind ≡ sentKind → Headed n home → Within (o .other) (o .series)
+    sent-within k hd =
+        let g = ok .sent k in record { from-one = order-from g; to-eight = omega (arith, order-to g, hd .few); low = order-series g }
+
+    pub received-from : r .kind ≡ receivedKind → 1 ≤ o .other
+    received-from k = order-from (ok .received k)
+
+    pub received-to : r .kind ≡ receivedKind → o .other ≤ n
+    received-to k = order-to (ok .received k)
+
+    pub received-series : r .kind ≡ receivedKind → o .series < 32
+    received-series k = order-series (ok .received k)
+
+pub ruleset judge-laws = (says-clear, says-locked, says-crossed, says-fine, says-not-shown, says-not-best, says-none, says-whole, says-least, bit-one, bit-none, judged-away, judged-home, judged-sent, judged-received, judged-trade, judged-other, quote-series, trade-series, sent-within, received-from, received-to, received-series)

@@ -1,0 +1,92 @@
+// What is printed of a record: the verdict on a home quote, an order or a trade, as a letter and three numbers.
+ghost use mathlib.Core.Path.{_≡_};
+ghost use Rattle.rows.specs.Rows.{RecOk};
+ghost use Rattle.orders.specs.Orders.{Headed};
+ghost use Rattle.market.specs.Judged.{bitOf, QuoteSays, SentSays, DutySays, JudgedIs};
+use home::Against;
+use orders::Duty;
+use orders::Order;
+use orders::Sent;
+use quotes::Quote;
+use rows::Rec;
+use through::Trade;
+
+// What is printed of a record: its letter, and a, b, c.
+pub enum Judged {
+    Nothing,
+    Q(usize, usize, usize),
+    S(usize, usize, usize),
+    R(usize, usize, usize),
+    T(usize, usize, usize),
+}
+
+fn quote_says(v: Against) -> Judged
+    ensures { λ r. ⌜ QuoteSays v r ⌝ }
+{
+    match v {
+        Against::Clear => Judged::Q(Against::CLEAR, 0, 0),
+        Against::Locked(x, side) => Judged::Q(Against::LOCKED, x, rows::index(side)),
+        Against::Crossed(x, side) => Judged::Q(Against::CROSSED, x, rows::index(side)),
+    }
+}
+
+fn sent_says(v: Sent, number: usize) -> Judged
+    ensures { λ r. ⌜ SentSays v number r ⌝ }
+{
+    match v {
+        Sent::Fine => Judged::S(Sent::FINE, number, 0),
+        Sent::NotShown => Judged::S(Sent::NOT_SHOWN, number, 0),
+        Sent::NotBest => Judged::S(Sent::NOT_BEST, number, 0),
+    }
+}
+
+fn duty_says(v: Duty) -> Judged
+    ensures { λ r. ⌜ DutySays v r ⌝ }
+{
+    match v {
+        Duty::NoDuty(reason) => Judged::R(Duty::NONE, 0, rows::index(reason)),
+        Duty::Whole(contracts) => Judged::R(Duty::WHOLE, rows::index(contracts), 0),
+        Duty::AtLeast(contracts) => Judged::R(Duty::AT_LEAST, rows::index(contracts), 0),
+    }
+}
+
+fn bit(b: bool) -> usize
+    ensures { λ r. ⌜ r ≡ bitOf b ⌝ }
+{
+    if b { 1 } else { 0 }
+}
+
+// "Away quotes, statuses and responses print nothing."; what is printed of a Satisfaction Order is our own sheet's.
+// `sent` and `trades` count the sent orders and the trades before this record.
+pub fn judge(
+    q: &[u32; 2048],
+    st: &[u32; 8],
+    n: usize,
+    home: usize,
+    sizes: &[u32; 16],
+    sent: usize,
+    trades: usize,
+    r: Rec,
+) -> Judged
+    requires { ⌜ Headed n home × RecOk n home r ⌝ }
+    ensures { λ a. ⌜ JudgedIs (now (q .entry)) (now (st .entry)) n home (now (sizes .entry)) sent trades r a ⌝ }
+{
+    if r.kind == Quote::KIND {
+        if !home::is_home(r, home) {
+            return Judged::Nothing;
+        }
+        return quote_says(home::home_quote(q, n, home, home::quote_of(r)));
+    }
+    if r.kind == Order::SENT {
+        return sent_says(orders::sent_order(q, n, orders::order_of(r)), sent);
+    }
+    if r.kind == Order::RECEIVED {
+        return duty_says(orders::received_order(q, st, n, home, sizes, orders::order_of(r)));
+    }
+    if r.kind == Trade::KIND {
+        let t = through::trade_of(r);
+        let count = through::count_through(q, n, home, t);
+        return Judged::T(trades, count, bit(through::is_block(q, n, t)));
+    }
+    Judged::Nothing
+}

@@ -1,0 +1,188 @@
+// The verdicts on sent and received orders. A buy order goes for the offer, a sell order for the bid.
+ghost use mathlib.Core.Path.{_≡_};
+ghost use Prim.Native.Nat.{_≤_, _<_, min};
+ghost use Rattle.quotes.specs.Tables.{Within};
+ghost use Rattle.orders.specs.Orders.{worseOf, Headed, OrderIs, ShownIs, BestIs, SentIs, NoDutyIs, FirmIs, DutyIs};
+use quotes::Quote;
+use quotes::Status;
+use rows::Rec;
+
+// What a record of kind 4 or 6 holds: `other` is "to" of a sent order, "from" of a received one.
+pub struct Order {
+    pub kind: u32,
+    pub other: usize,
+    pub series: usize,
+    pub side: u32,
+    pub price: u32,
+    pub size: u32,
+}
+
+impl Order {
+    pub const SENT: u32 = 4;
+
+    pub const RECEIVED: u32 = 6;
+
+    // "type (1 P/A, 2 principal)"
+    pub const LINKED: u32 = 1;
+
+    // "side (1 buy, 2 sell)"
+    pub const BUY: u32 = 1;
+}
+
+// S.
+pub enum Sent {
+    Fine,
+    NotShown,
+    NotBest,
+}
+
+impl Sent {
+    pub const FINE: usize = 0;
+
+    pub const NOT_SHOWN: usize = 1;
+
+    pub const NOT_BEST: usize = 2;
+}
+
+// R: none, and the reason; the whole order; at least so many contracts.
+pub enum Duty {
+    NoDuty(u32),
+    Whole(u32),
+    AtLeast(u32),
+}
+
+impl Duty {
+    pub const NONE: usize = 0;
+
+    pub const WHOLE: usize = 1;
+
+    pub const AT_LEAST: usize = 2;
+
+    pub const ABSENT_OR_WORSE: u32 = 1;
+
+    pub const NOT_BEST: u32 = 2;
+
+    pub const NON_FIRM: u32 = 3;
+}
+
+pub fn order_of(r: Rec) -> Order
+    ensures { λ o. ⌜ OrderIs r o ⌝ }
+{
+    let row = r.row;
+    Order {
+        kind: row[0],
+        other: rows::index(row[1]),
+        series: rows::index(row[2]),
+        side: row[3],
+        price: row[4],
+        size: row[5],
+    }
+}
+
+fn is_worse(side: u32, there: u32, price: u32) -> bool
+    ensures { λ r. ⌜ r ≡ worseOf side there price ⌝ }
+{
+    if side == Order::BUY {
+        return prices::is_above(there, price);
+    }
+    prices::is_above(price, there)
+}
+
+fn shown_price(q: &[u32; 2048], exchange: usize, series: usize, side: u32) -> u32
+    requires { ⌜ Within exchange series ⌝ }
+    ensures { λ r. ⌜ ShownIs (now (q .entry)) exchange series side r ⌝ }
+{
+    let k = prices::place(exchange - 1, series);
+    if side == Order::BUY {
+        return q[k + Quote::OFFER];
+    }
+    q[k + Quote::BID]
+}
+
+fn best_price(q: &[u32; 2048], n: usize, series: usize, side: u32) -> u32
+    requires { ⌜ (n ≤ 8) × (series < 32) ⌝ }
+    ensures { λ r. ⌜ BestIs (now (q .entry)) n series side r ⌝ }
+{
+    if side == Order::BUY {
+        return prices::best_offer(q, n, series);
+    }
+    prices::best_bid(q, n, series)
+}
+
+// "1 if its price is not the receiver's bid (sell) or offer (buy); else 2 if that is not the best; else 0."
+pub fn sent_order(q: &[u32; 2048], n: usize, o: Order) -> Sent
+    requires { ⌜ (n ≤ 8) × Within (o .other) (o .series) ⌝ }
+    ensures { λ r. ⌜ SentIs (now (q .entry)) n o r ⌝ }
+{
+    let there = shown_price(q, o.other, o.series, o.side);
+    if !prices::is_equal(o.price, there) {
+        return Sent::NotShown;
+    }
+    if there != best_price(q, n, o.series, o.side) {
+        return Sent::NotBest;
+    }
+    Sent::Fine
+}
+
+// Why home has no duty, or 0: "First that holds."
+fn no_duty(q: &[u32; 2048], st: &[u32; 8], n: usize, home: usize, o: Order) -> u32
+    requires { ⌜ (n ≤ 8) × Within home (o .series) ⌝ }
+    ensures { λ r. ⌜ NoDutyIs (now (q .entry)) (now (st .entry)) n home o r ⌝ }
+{
+    let ours = shown_price(q, home, o.series, o.side);
+    if ours == 0 {
+        return Duty::ABSENT_OR_WORSE;
+    }
+    if is_worse(o.side, ours, o.price) {
+        return Duty::ABSENT_OR_WORSE;
+    }
+    if ours != best_price(q, n, o.series, o.side) {
+        return Duty::NOT_BEST;
+    }
+    if st[home - 1] == Status::NON_FIRM {
+        return Duty::NON_FIRM;
+    }
+    0
+}
+
+fn lesser(a: u32, b: u32) -> u32
+    ensures { λ r. ⌜ r ≡ min a b ⌝ }
+{
+    if a < b { a } else { b }
+}
+
+// "for P/A the lesser of both automatic sizes; for principal home's principal size"
+fn firm_size(n: usize, home: usize, sizes: &[u32; 16], o: Order) -> u32
+    requires { ⌜ Headed n home × ((1 ≤ o .other) × (o .other ≤ n)) ⌝ }
+    ensures { λ r. ⌜ FirmIs n home (now (sizes .entry)) o r ⌝ }
+{
+    let ours = 2 * (home - 1);
+    let theirs = 2 * (o.other - 1);
+    if o.kind == Order::LINKED {
+        return lesser(sizes[ours], sizes[theirs]);
+    }
+    sizes[ours + 1]
+}
+
+// "Otherwise the whole order if not above the firm size, else at least the firm size."
+pub fn received_order(
+    q: &[u32; 2048],
+    st: &[u32; 8],
+    n: usize,
+    home: usize,
+    sizes: &[u32; 16],
+    o: Order,
+) -> Duty
+    requires { ⌜ Headed n home × ((o .series < 32) × ((1 ≤ o .other) × (o .other ≤ n))) ⌝ }
+    ensures { λ r. ⌜ DutyIs (now (q .entry)) (now (st .entry)) n home (now (sizes .entry)) o r ⌝ }
+{
+    let reason = no_duty(q, st, n, home, o);
+    if reason != 0 {
+        return Duty::NoDuty(reason);
+    }
+    let firm = firm_size(n, home, sizes, o);
+    if o.size <= firm {
+        return Duty::Whole(o.size);
+    }
+    Duty::AtLeast(firm)
+}

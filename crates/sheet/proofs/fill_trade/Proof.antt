@@ -1,0 +1,29 @@
+use Rattle.sheet.proofs.OwnFills.{fill-laws}
+use borrow.Author.Needs.{needs}
+use Rattle.sheet.proofs.fill_trade.Statement.{statement}
+use Rattle.sheet.proofs.fill_trade.Tie as tie
+use Rattle.sheet.proofs.fill_trade.Reads as reads
+use Rattle.sheet.proofs.fill_trade.Lts as lts
+use Rattle.sharing.proofs.share_out.Reads as share-out-reads
+use Rattle.slots.proofs.gather.Reads as gather-reads
+use Rattle.slots.proofs.scatter.Reads as scatter-reads
+
+gather-requires : tie.Need-gather-requires
+gather-requires c κs = search (fill-laws, needs)
+
+gather-requires-2 : tie.Need-gather-requires-2
+gather-requires-2 c κs = search (fill-laws, needs)
+
+share-out-requires : tie.Need-share-out-requires
+share-out-requires c κs = search (fill-laws, needs)
+
+scatter-requires : tie.Need-scatter-requires
+scatter-requires c κs = search (fill-laws, needs)
+
+returns : tie.Need-returns
+returns c = search (fill-laws, needs)
+
+pub fill-trade-spec : {M : Type 1} → statement M
+fill-trade-spec =
+    tie.close
+    (tie.spec gather-requires gather-requires-2 share-out-requires scatter-requires returns)

@@ -1,0 +1,60 @@
+// All tables of a day's events, and one record more: quotes and statuses as they stand, sent orders, trades, Satisfaction Orders.
+ghost use Rattle.orders.specs.Orders.{Headed};
+ghost use Rattle.tables.specs.Tables.{Orderly, Placed, TablesStep};
+use rows::Rec;
+
+// How many sent orders, trades and Satisfaction Orders there are so far.
+pub struct Numbers {
+    pub orders: usize,
+    pub trades: usize,
+    pub lines: usize,
+}
+
+// What a record reads of the moment before it is read before it is written: a Satisfaction Order's trade, then a trade's quotes,
+// statuses and orders.
+pub fn keep(
+    q: &mut [u32; 2048],
+    st: &mut [u32; 8],
+    t: &mut [u32; 2048],
+    ch: &mut [u32; 512],
+    tr: &mut [u32; 1024],
+    sn: &mut [u32; 8192],
+    cl: &mut [u32; 6144],
+    c: Numbers,
+    home: usize,
+    exchanges: usize,
+    close: u32,
+    sizes: &[u32; 16],
+    block: bool,
+    r: Rec,
+) -> Numbers
+    requires { ⌜ Headed exchanges home ⌝ }
+    requires { ⌜ Placed r (now cl) exchanges c ⌝ }
+    requires { ⌜ Orderly (now t) (now ch) (now cl) c ⌝ }
+    ensures { λ d. ⌜ TablesStep r home exchanges close (now (sizes .entry)) block (now (q .entry)) (now (st .entry)) (now (t .entry)) (now (tr .entry)) (now (sn .entry)) (now (cl .entry)) c (now (q .exit)) (now (st .exit)) (now (t .exit)) (now (ch .exit)) (now (tr .exit)) (now (sn .exit)) (now (cl .exit)) d ⌝ }
+{
+    let lines = claims::keep_claim(cl, tr, sn, c.lines, c.trades, home, exchanges, close, r);
+    let trades = trades::keep_trade(
+        tr,
+        sn,
+        c.trades,
+        home,
+        exchanges,
+        sizes,
+        q,
+        st,
+        t,
+        ch,
+        c.orders,
+        block,
+        r,
+    );
+    let orders = excuses::keep_excuses(t, ch, c.orders, r);
+    quotes::keep_quote(q, r);
+    quotes::keep_status(st, r);
+    Numbers {
+        orders,
+        trades,
+        lines,
+    }
+}

@@ -1,0 +1,225 @@
+-- Trades against the table of quotes: the exchanges traded through, counted one by one, and blocks.
+use mathlib.Core.Path.{_≡_, refl, sym, _∙_}
+use mathlib.Core.Bool.{Bool, true, false, not, _&&_, _||_}
+use mathlib.Core.List.{List, [], _∷_, _++_, append-nil}
+use Prim.Native.Nat.{ℕ, suc, _+_, _*_, _<_, _≤_}
+use native.Mathlib.Omega.{arith}
+use native.Mathlib.Nat.{mul-le-mul}
+use native.Mathlib.Numerals.{add-one}
+use mir.Val.{Fits}
+use mir.Syntax.{w64}
+use lib.Dec.{eqb, leb}
+use lib.ListN.{getD, length, length-append}
+use borrow.Author.Tests.{eq-eqb, ne-eqb, eqb-true, eqb-false, leb-true, le-leb, lt-leb, not-true, not-false}
+use Rattle.rules.specs.Basics.{_==_, firstOf, keep}
+use Rattle.rules.specs.Record as paper
+use Rattle.rules.specs.Journal.{History}
+use Rattle.rules.specs.Prices.{standing, upTo, everyone, away, bestBid, bestOffer}
+use Rattle.rules.specs.Verdicts.{through, sideThrough, throughs, isBlock}
+use Rattle.rules.proofs.Tests.{byTest, and-no}
+use Rattle.rows.specs.Rows.{Reads, TradeOk, RecOk}
+use Rattle.rows.specs.declared.Rec.{Rec}
+use Rattle.quotes.specs.Tables.{Quoted}
+use Rattle.prices.specs.Prices.{aboveOf, bidOf, offerOf, PlaceIs, BidIs, OfferIs}
+use Rattle.through.specs.Trades.{SameTrade, throughOf, countsOf, formOf, TradeIs, CountIs, BlockIs, TradePlaced, BlockFound}
+use Rattle.through.specs.declared.Trade.{Trade}
+use Rattle.prices.proofs.BestPrices.{others, keep-more, bid-shown, offer-shown}
+
+-- ---- one exchange
+
+module _ (b o p : ℕ) (t : Bool) (et : t ≡ aboveOf b p) where
+  pub through-bid : t ≡ true → 1 ≡ throughOf b o p
+  unfolding throughOf firstOf aboveOf
+  through-bid z = rw (← et, z)
+
+  module _ (z : t ≡ false) (u : Bool) (eu : u ≡ aboveOf p o) where
+    pub through-offer : u ≡ true → 2 ≡ throughOf b o p
+    unfolding throughOf firstOf aboveOf
+    through-offer y = rw (← et, z, ← eu, y)
+
+    pub through-not : u ≡ false → 0 ≡ throughOf b o p
+    unfolding throughOf firstOf aboveOf
+    through-not y = rw (← et, z, ← eu, y)
+
+-- the code's side, of a quote's two prices, is the paper's
+pub through-is : (k : paper.Quote) (price : ℕ) → throughOf (k .bid) (k .offer) price ≡ through k price
+unfolding through throughOf
+through-is k price = refl
+
+module _ (home x side : ℕ) where
+  pub counts-home : x ≡ home → 0 ≡ countsOf home x side
+  unfolding countsOf
+  counts-home e = rw (eq-eqb _ _ e)
+
+  pub counts-none : (x ≡ home → ⊥) → side ≡ 0 → 0 ≡ countsOf home x side
+  unfolding countsOf
+  counts-none n e = rw (ne-eqb _ _ n, eq-eqb _ _ e)
+
+  pub counts-one : (x ≡ home → ⊥) → (side ≡ 0 → ⊥) → 1 ≡ countsOf home x side
+  unfolding countsOf
+  counts-one n e = rw (ne-eqb _ _ n, ne-eqb _ _ e)
+
+-- ---- the loop: the count c of the away exchanges traded through, up to y
+
+pub record Counted (q : List ℕ) (n home : ℕ) (t : Trade) (y c : ℕ) : Type 0 where
+  pub few : y ≤ n
+  pub small : c ≤ y
+  pub so : (past : History) → Quoted past q
+      → c ≡ length (keep (λ x. not (through (standing x (t .series) past) (t .price) == 0)) (keep (others home) (upTo y)))
+
+-- one more exchange
+length-more : (f : ℕ → ℕ) (home x : ℕ) (xs : List ℕ)
+    → length (keep (λ y. not (f y == 0)) (keep (others home) (xs ++ (x ∷ [])))) ≡ length (keep (λ y. not (f y == 0)) (keep (others home) xs)) + countsOf home x (f x)
+unfolding countsOf keep
+length-more f home x xs =
+    byTest (eqb x home)
+    (λ e. rw (keep-more (others home) xs x, e, append-nil) (omega arith))
+    (λ e. rw (keep-more (others home) xs x, e, keep-more (λ y. not (f y == 0)) (keep (others home) xs) x, length-append)
+    (byTest (eqb (f x) 0) (λ z. rw z (omega arith)) (λ z. rw z (omega arith))))
+
+module _ (q : List ℕ) (n home : ℕ) (t : Trade) where
+  pub counted-none : Counted q n home t 0 0
+  unfolding upTo keep
+  counted-none = record { few = omega arith; small = omega arith; so = λ past held. refl }
+
+  module _ (y c : ℕ) (a : Counted q n home t y c) where
+    pub counted-all : n ≤ y → CountIs q n home t c
+    unfolding throughs sideThrough away everyone
+    counted-all l =
+        record {
+          so = λ h past k en eh same held.
+              let z : h .exchanges ≡ y = omega (arith, a .few) in simp (z, eh, same .series, same .price) (a .so past held);
+        }
+
+    module _ (l : y < n) (pre : (n ≤ 8) × (t .series < 32)) (k : ℕ) (p : PlaceIs y (t .series) k)
+        (side : ℕ) (es : side ≡ throughOf (getD q (k + 2) 0) (getD q (k + 5) 0) (t .price)) (d : ℕ) (ed : (d ≡ countsOf home (y + 1) side) × (d ≤ 1)) where
+      side-is : (past : History) → Quoted past q → side ≡ through (standing (suc y) (t .series) past) (t .price)
+      unfolding through throughOf bidOf offerOf
+      side-is past held =
+          rw (← bid-shown q past held y (t .series) k (omega arith) (pre .1) p, ← offer-shown q past held y (t .series) k (omega arith) (pre .1) p) es
+
+      pub counted-more : Counted q n home t (y + 1) (c + d)
+      unfolding upTo
+      counted-more =
+          record {
+            few = omega arith;
+            small = omega (arith, a .small);
+            so = λ past held.
+                rw (ed .0, add-one y, side-is past held, a .so past held)
+                (sym (length-more (λ x. through (standing x (t .series) past) (t .price)) home (suc y) (upTo y)));
+          }
+
+      pub counted-fits : Fits w64 (c + d)
+      counted-fits = record { fits = omega (arith, a .small, a .few) }
+
+-- ---- blocks
+
+pub product-fits : (x y : ℕ) → x < 4294967296 → y < 4294967296 → Fits w64 (x * y)
+product-fits x y p q =
+    record {
+      fits = let hx : x ≤ 4294967295 = omega arith in let hy : y ≤ 4294967295 = omega arith in omega (arith, mul-le-mul hx hy);
+    }
+
+pub product-is : (a b x y : ℕ) → (x ≡ a) × (x < 4294967296) → (y ≡ b) × (y < 4294967296) → x * y ≡ a * b
+product-is a b x y p q = rw (p .0, q .0)
+
+pub form-cross : (f : ℕ) → f ≡ 1 → true ≡ formOf f
+unfolding formOf
+form-cross f e = rw e
+
+pub form-other : (f : ℕ) → (f ≡ 1 → ⊥) → eqb f 2 ≡ formOf f
+unfolding formOf
+form-other f ne =
+    byTest (eqb f 2)
+    (λ z. rw (eqb-true f 2 z))
+    (λ z. let off = eqb-false f 2 z in
+    byTest (leb 1 f) (λ u. rw (z, u) (sym (lt-leb f 2 (omega (arith, leb-true 1 f u))))) (λ u. rw (z, u)))
+
+and-yes : (a : Bool) → a ≡ (a && true)
+and-yes true = refl
+and-yes false = refl
+
+module _ (q : List ℕ) (n : ℕ) (t : Trade) where
+  pub block-small : t .size < 500 → BlockIs q n t false
+  unfolding isBlock
+  block-small l = record { so = λ h past k en same held. rw (same .size, lt-leb _ _ l) }
+
+  module _ (big : 500 ≤ t .size) (v : ℕ) (ev : v ≡ t .price * t .size) where
+    pub block-cheap : v < 150000 → BlockIs q n t false
+    unfolding isBlock
+    block-cheap l =
+        record { so = λ h past k en same held. rw (same .size, same .price, ← ev, le-leb _ _ big, lt-leb _ _ l) }
+
+    module _ (dear : 150000 ≤ v) (g : Bool) (eg : g ≡ formOf (t .form)) where
+      pub block-formless : not g ≡ true → BlockIs q n t false
+      unfolding isBlock formOf aboveOf
+      block-formless y =
+          record {
+            so = λ h past k en same held.
+                let w : g ≡ false = not-true g y in
+                rw (same .size, same .price, same .form, ← eg, w, ← ev, le-leb _ _ big, le-leb _ _ dear)
+                (sym (and-no (aboveOf (bestBid h (k .series) past) (t .price) || aboveOf (t .price) (bestOffer h (k .series) past))));
+          }
+
+      module _ (formed : not g ≡ false) (bb : ℕ) (eb : BidIs q n (t .series) bb) (b : Bool) (below : b ≡ aboveOf bb (t .price)) where
+        pub block-below : b ≡ true → BlockIs q n t true
+        unfolding isBlock formOf aboveOf
+        block-below y =
+            record {
+              so = λ h past k en same held.
+                  let w : g ≡ true = not-false g formed in
+                  rw (same .size, same .price, same .series, same .form, ← eg, w, ← ev, le-leb _ _ big, le-leb _ _ dear, ← eb .so h past en held, ← below, y);
+            }
+
+        pub block-above : b ≡ false → (bo : ℕ) → OfferIs q n (t .series) bo → (r : Bool) → r ≡ aboveOf (t .price) bo → BlockIs q n t r
+        unfolding isBlock formOf aboveOf
+        block-above y bo eo r er =
+            record {
+              so = λ h past k en same held.
+                  let w : g ≡ true = not-false g formed in
+                  rw (same .size, same .price, same .series, same .form, ← eg, w, ← ev, le-leb _ _ big, le-leb _ _ dear, ← eb .so h past en held, ← eo .so h past en held, ← below, y, ← er)
+                  (and-yes r);
+            }
+
+-- ---- a record of any kind
+
+pub trade-is : (r : Rec) (e : paper.Event) → Reads e r → (t : Trade) → TradeIs r t → SameTrade t (paper.trade e)
+trade-is r e reads t is =
+    record {
+      series = sym (is .series ∙ reads .fields 0);
+      price = sym (is .price ∙ reads .fields 1);
+      size = sym (is .size ∙ reads .fields 2);
+      form = sym (is .form ∙ reads .fields 3);
+    }
+
+pub trade-placed : (n home : ℕ) (r : Rec) → RecOk n home r → n ≤ 8 → TradePlaced r
+trade-placed n home r ok few =
+    record {
+      trade = λ k. let g = ok .trade k in
+          record {
+            series = g .series;
+            price = g .price;
+            price-from-one = g .price-from-one;
+            size = g .size;
+            size-from-one = g .size-from-one;
+            form = g .form;
+            complex = g .complex;
+            initiator = omega (arith, g .initiator);
+            delay = g .delay;
+          };
+    }
+
+pub series-low : (m : ℕ) (r : Rec) (t : Trade) → TradeOk m r → TradeIs r t → t .series < 32
+series-low m r t ok is = omega (arith, ok .series, is .series)
+
+module _ (q : List ℕ) (n : ℕ) (r : Rec) where
+  pub trade-series : (t : Trade) → TradeIs r t → TradePlaced r → r .kind ≡ paper.tradeKind → t .series < 32
+  trade-series t is ok k = series-low 8 r t (ok .trade k) is
+
+  pub block-none : (r .kind ≡ paper.tradeKind → ⊥) → BlockFound q n r false
+  block-none ne = record { so = λ h e past en reads held k. absurd (ne (sym (reads .kind) ∙ k)) }
+
+  pub block-found : (b : Bool) (t : Trade) → BlockIs q n t b → TradeIs r t → BlockFound q n r b
+  block-found b t block is = record { so = λ h e past en reads held k. block .so h past (paper.trade e) en (trade-is r e reads t is) held }
+
+pub ruleset trade-laws = (through-bid, through-offer, through-not, counts-home, counts-none, counts-one, counted-none, counted-all, counted-more, counted-fits, product-fits, product-is, form-cross, form-other, block-small, block-cheap, block-formless, block-below, block-above, trade-series, block-none, block-found)

@@ -1,0 +1,132 @@
+// The verdicts on a trade: which away exchanges it trades through, and whether it is a block.
+ghost use mathlib.Core.Path.{_≡_};
+ghost use Prim.Native.Nat.{_*_, _≤_, _<_};
+ghost use Rattle.through.specs.Trades.{throughOf, countsOf, formOf, TradeIs, CountIs, BlockIs, TradePlaced, BlockFound};
+use prices::Side;
+use quotes::Quote;
+use rows::Rec;
+
+// What a trade's verdicts look at.
+pub struct Trade {
+    pub series: usize,
+    pub price: u32,
+    pub size: u32,
+    pub form: u32,
+}
+
+impl Trade {
+    pub const KIND: u32 = 3;
+}
+
+pub struct Block;
+
+impl Block {
+    pub const LEAST_CONTRACTS: u32 = 500;
+
+    // Price in cents times contracts.
+    pub const LEAST_VALUE: u64 = 150000;
+
+    // "block form (0 none, 1 cross, 2 other not at the quote)"
+    pub const CROSS: u32 = 1;
+
+    pub const OTHER: u32 = 2;
+}
+
+pub fn trade_of(r: Rec) -> Trade
+    ensures { λ t. ⌜ TradeIs r t ⌝ }
+{
+    let row = r.row;
+    Trade {
+        series: rows::index(row[0]),
+        price: row[1],
+        size: row[2],
+        form: row[3],
+    }
+}
+
+// "An away exchange is traded through if its bid is above the price or its offer below it."
+pub fn through_side(bid: u32, offer: u32, price: u32) -> u32
+    ensures { λ r. ⌜ r ≡ throughOf bid offer price ⌝ }
+{
+    if prices::is_above(bid, price) {
+        return Side::BID;
+    }
+    if prices::is_above(price, offer) {
+        return Side::OFFER;
+    }
+    Side::NEITHER
+}
+
+fn counts(home: usize, x: usize, side: u32) -> usize
+    ensures { λ r. ⌜ (r ≡ countsOf home x side) × (r ≤ 1) ⌝ }
+{
+    if x == home {
+        return 0;
+    }
+    if side == Side::NEITHER {
+        return 0;
+    }
+    1
+}
+
+// How many away exchanges are traded through.
+pub fn count_through(q: &[u32; 2048], n: usize, home: usize, t: Trade) -> usize
+    requires { ⌜ (n ≤ 8) × (t .series < 32) ⌝ }
+    ensures { λ r. ⌜ CountIs (now (q .entry)) n home t r ⌝ }
+{
+    let mut count: usize = 0;
+    let mut y: usize = 0;
+    while y < n {
+        let k = prices::place(y, t.series);
+        let side = through_side(q[k + Quote::BID], q[k + Quote::OFFER], t.price);
+        count += counts(home, y + 1, side);
+        y += 1;
+    }
+    count
+}
+
+fn value(price: u32, size: u32) -> u64
+    ensures { λ r. ⌜ r ≡ price * size ⌝ }
+{
+    rows::wide(price) * rows::wide(size)
+}
+
+fn block_form(form: u32) -> bool
+    ensures { λ r. ⌜ r ≡ formOf form ⌝ }
+{
+    if form == Block::CROSS {
+        return true;
+    }
+    form == Block::OTHER
+}
+
+// The best prices come last: they take a walk over all exchanges.
+pub fn is_block(q: &[u32; 2048], n: usize, t: Trade) -> bool
+    requires { ⌜ (n ≤ 8) × (t .series < 32) ⌝ }
+    ensures { λ r. ⌜ BlockIs (now (q .entry)) n t r ⌝ }
+{
+    if t.size < Block::LEAST_CONTRACTS {
+        return false;
+    }
+    if value(t.price, t.size) < Block::LEAST_VALUE {
+        return false;
+    }
+    if !block_form(t.form) {
+        return false;
+    }
+    if prices::is_above(prices::best_bid(q, n, t.series), t.price) {
+        return true;
+    }
+    prices::is_above(t.price, prices::best_offer(q, n, t.series))
+}
+
+// Whether a record of any kind is a block trade.
+pub fn found_block(q: &[u32; 2048], n: usize, r: Rec) -> bool
+    requires { ⌜ (n ≤ 8) × TradePlaced r ⌝ }
+    ensures { λ b. ⌜ BlockFound (now (q .entry)) n r b ⌝ }
+{
+    if r.kind != Trade::KIND {
+        return false;
+    }
+    is_block(q, n, trade_of(r))
+}

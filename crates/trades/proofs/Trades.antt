@@ -1,0 +1,139 @@
+-- What one more record does to the tables of trades.
+use mathlib.Core.Path.{_≡_, refl, sym, ap, _∙_}
+use mathlib.Core.Bool.{Bool, true}
+use mathlib.Core.List.{List, [], _∷_}
+use Prim.Native.Nat.{ℕ, zero, suc, _+_, _*_, _<_, _≤_}
+use native.Mathlib.Omega.{arith}
+use lib.Dec.{eqb}
+use lib.ListN.{getD}
+use borrow.Author.Tests.{eq-eqb, ne-eqb, eqb-true, eqb-false}
+use Rattle.rules.specs.Basics.{keep}
+use Rattle.rules.specs.Header.{Header}
+use Rattle.rules.specs.Record.{Event, trade, isTrade, tradeKind}
+use Rattle.rules.specs.Journal.{History, count, tradeAt, beforeTrade}
+use Rattle.rules.specs.Verdicts.{sideThrough, isBlock}
+use Rattle.rules.specs.Due.{capped}
+use Rattle.rules.proofs.Tests.{byTest}
+use Rattle.rules.proofs.Histories.{count-cons, count-skip, tradeAt-older, tradeAt-new, beforeTrade-older, beforeTrade-new}
+use Rattle.rows.specs.Rows.{Reads, word, Put, RecOk}
+use Rattle.rows.specs.declared.Rec.{Rec}
+use Rattle.orders.specs.Orders.{Headed}
+use Rattle.excuses.specs.Excuses.{bit}
+use Rattle.trades.specs.Trades.{snap, snapAt, tradeRow, Traded, Snaps, SidesAre, CapIs, Placed, Placeable, TradesStep}
+
+-- ---- a record of another kind
+
+module _ (h : Header) (past : History) (tr sn : List ℕ) (n : ℕ) (e : Event) (held : Traded h past tr sn n) where
+  pub trades-alone : (e .kind ≡ tradeKind → ⊥) → Traded h (e ∷ past) tr sn n
+  trades-alone ne =
+      record {
+        numbered = held .numbered ∙ sym (count-skip isTrade e past (ne-eqb (e .kind) tradeKind ne));
+        rows = λ m i hm hi. rw (tradeAt-older m e past (older m hm), beforeTrade-older m e past (older m hm)) (held .rows m i hm hi);
+        snaps = λ m y i hm hy hi. rw (tradeAt-older m e past (older m hm), beforeTrade-older m e past (older m hm)) (held .snaps m y i hm hy hi);
+      }
+    where
+      older : (m : ℕ) → m < n → m < count isTrade past
+      older m hm = omega (arith, held .numbered)
+
+-- ---- a trade
+
+first-seven : (a b c d e f g k : ℕ) (i : ℕ) → i < 7
+    → getD (a ∷ b ∷ c ∷ d ∷ e ∷ f ∷ g ∷ k ∷ []) i 0 ≡ getD (a ∷ b ∷ c ∷ d ∷ e ∷ f ∷ g ∷ []) i 0
+first-seven a b c d e f g k zero h = refl
+first-seven a b c d e f g k (suc zero) h = refl
+first-seven a b c d e f g k (suc (suc zero)) h = refl
+first-seven a b c d e f g k (suc (suc (suc zero))) h = refl
+first-seven a b c d e f g k (suc (suc (suc (suc zero)))) h = refl
+first-seven a b c d e f g k (suc (suc (suc (suc (suc zero))))) h = refl
+first-seven a b c d e f g k (suc (suc (suc (suc (suc (suc zero)))))) h = refl
+first-seven a b c d e f g k (suc (suc (suc (suc (suc (suc (suc i))))))) h = let z : ⊥ = omega arith in elim z [ ]
+
+row-is : (r : Rec) (h : Header) (e : Event) (past : History) (b c : Bool) → Reads e r → b ≡ isBlock h past (trade e) → c ≡ capped h past (trade e)
+    → (word r 1 ∷ word r 2 ∷ bit b ∷ word r 4 ∷ word r 5 ∷ (r .time + word r 6) ∷ bit c ∷ []) ≡ tradeRow h e past
+unfolding tradeRow
+row-is r h e past b c rd eb ec =
+    rw (rd .fields 1, rd .fields 2, rd .fields 4, rd .fields 5, rd .fields 6, ← rd .time, eb, ec)
+
+side-is : (past : History) (e : Event) (y : ℕ) → getD (snapAt e past y) 0 0 ≡ sideThrough past (trade e) (y + 1)
+unfolding snap sideThrough
+side-is past e y = refl
+
+module _ (r : Rec) (home exchanges : ℕ) (sizes : List ℕ) (block : Bool) (q st t : List ℕ) (orders : ℕ) (tr sn : List ℕ) (n : ℕ) where
+  pub trade-taken : Headed exchanges home → Placeable r n → (tr2 sn2 : List ℕ) (s : ℕ) → (s ≡ word r 0) × (s < 4294967296)
+      → Snaps q st t orders n s (word r 1) (r .time) sn sn2 exchanges → (large : Bool) → CapIs sn2 n home exchanges sizes (word r 2) large
+      → (b c : ℕ) → b ≡ bit block → c ≡ bit large
+      → Put tr tr2 (word r 1 ∷ word r 2 ∷ b ∷ word r 4 ∷ word r 5 ∷ (r .time + word r 6) ∷ c ∷ 0 ∷ []) n 8
+      → TradesStep r home exchanges sizes block q st t orders tr sn n tr2 sn2 (n + 1)
+  trade-taken ok pl tr2 sn2 s es k large cis b c eb ec put =
+      record {
+        so =
+            λ h e past is rd blocks qs ss os held.
+            let ek : e .kind ≡ tradeKind = rd .kind ∙ pl .kind in
+            let isT : isTrade e ≡ true = eq-eqb (e .kind) tradeKind ek in
+            let newT : tradeAt n (e ∷ past) ≡ e = tradeAt-new n e past isT (held .numbered) in
+            let newB : beforeTrade n (e ∷ past) ≡ past = beforeTrade-new n e past isT (held .numbered) in
+            let there : (y i : ℕ) → y < h .exchanges → i < 5 → getD sn2 ((n * 8 + y) * 8 + i) 0 ≡ getD (snapAt e past y) i 0 =
+            λ y i hy hi. (let hx : y < exchanges = (let z = is .exchanges in omega arith) in
+            rw (es .0, rd .fields 0, rd .fields 1, ← rd .time) at (k .here past qs ss os y i hx hi)) in
+            let sides : SidesAre h past (trade e) sn2 n =
+            record { side = λ y hy. there y 0 hy (omega arith) ∙ side-is past e y } in
+            let row : (word r 1 ∷ word r 2 ∷ b ∷ word r 4 ∷ word r 5 ∷ (r .time + word r 6) ∷ c ∷ []) ≡ tradeRow h e past =
+            rw (eb, ec) (row-is r h e past block large rd (blocks ek) (cis .so h past (trade e) is sides (sym (rd .fields 2)))) in
+            record {
+              numbered = omega (arith, held .numbered, count-cons isTrade e past isT);
+              rows =
+                  λ m i hm hi. byTest (eqb m n)
+                  (λ z. rw (eqb-true m n z, newT, newB)
+                  (put .here i (omega arith) ∙ first-seven _ _ _ _ _ _ _ 0 i hi ∙ ap (λ (l : List ℕ). getD l i 0) row))
+                  (λ z. let ne = eqb-false m n z in
+                  let old : m < count isTrade past = omega (arith, ne, held .numbered) in
+                  rw (tradeAt-older m e past old, beforeTrade-older m e past old) (put .others m i (omega arith) ne ∙ held .rows m i (omega (arith, ne)) hi));
+              snaps =
+                  λ m y i hm hy hi. byTest (eqb m n)
+                  (λ z. rw (eqb-true m n z, newT, newB) (there y i hy hi))
+                  (λ z. let ne = eqb-false m n z in
+                  let old : m < count isTrade past = omega (arith, ne, held .numbered) in
+                  rw (tradeAt-older m e past old, beforeTrade-older m e past old)
+                  (k .others m y i (omega (arith, ok .few, is .exchanges)) (omega arith) ne ∙ held .snaps m y i (omega (arith, ne)) hy hi));
+            };
+        few = omega (arith, pl .room);
+      }
+
+  pub no-trade : n ≤ 128 → (r .kind ≡ tradeKind → ⊥) → TradesStep r home exchanges sizes block q st t orders tr sn n tr sn n
+  no-trade few ne =
+      record {
+        so = λ h e past is rd blocks qs ss os held. trades-alone h past tr sn n e held (λ z. ne (sym (rd .kind) ∙ z));
+        few = few;
+      }
+
+pub trade-placeable : (r : Rec) (n : ℕ) → Placed r n → r .kind ≡ tradeKind → Placeable r n
+trade-placeable r n p k = record { kind = k; time = p .time; fields = p .trade k; room = p .room k }
+
+pub ruleset trade-laws = (trade-taken, no-trade, trade-placeable)
+
+pub record-placed : (exchanges home n : ℕ) (r : Rec) → RecOk exchanges home r → exchanges ≤ 8 → (r .kind ≡ tradeKind → n < 128) → Placed r n
+record-placed exchanges home n r ok few room =
+    record {
+      time = ok .time;
+      trade = λ k. let g = ok .trade k in
+          record {
+            series = g .series;
+            price = g .price;
+            price-from-one = g .price-from-one;
+            size = g .size;
+            size-from-one = g .size-from-one;
+            form = g .form;
+            complex = g .complex;
+            initiator = omega (arith, g .initiator);
+            delay = g .delay;
+          };
+      room = room;
+    }
+
+-- the start
+pub trades-none : (h : Header) (tr sn : List ℕ) → Traded h [] tr sn 0
+unfolding count keep
+trades-none h tr sn = record { numbered = refl; rows = λ m i hm hi. none m hm; snaps = λ m y i hm hy hi. none m hm }
+  where
+    none : {A : Type 0} (m : ℕ) → m < 0 → A
+    none m h = let z : ⊥ = omega arith in elim z [ ]
