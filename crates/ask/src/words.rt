@@ -1,0 +1,56 @@
+// Numbers of four and eight bytes, lowest byte first.
+ghost use Prim.Native.Nat.{_<_};
+
+pub struct Numbers;
+
+impl Numbers {
+    // as many as an entry takes at most
+    pub const MOST: usize = 30;
+}
+
+fn wide(x: u8) -> u32
+    ensures { λ r. ⌜ r < 256 ⌝ }
+{
+    x as u32
+}
+
+// The word at a place of b, or 0 where none stands there whole.
+pub fn word_at(b: &[u8], at: usize) -> u32 {
+    if b.len() < 4 {
+        return 0;
+    }
+    if b.len() - 4 < at {
+        return 0;
+    }
+    wide(b[at]) + 256 * wide(b[at + 1]) + 65536 * wide(b[at + 2]) + 16777216 * wide(b[at + 3])
+}
+
+// Writes the word at a place of b that has room for it.
+pub fn put_word(b: &mut [u8], at: usize, x: u64) {
+    if b.len() < 4 {
+        return;
+    }
+    if b.len() - 4 < at {
+        return;
+    }
+    b[at] = (x % 256) as u8;
+    b[at + 1] = (x / 256 % 256) as u8;
+    b[at + 2] = (x / 65536 % 256) as u8;
+    b[at + 3] = (x / 16777216 % 256) as u8;
+}
+
+// The words of A; false where A is no row of words that an entry may take.
+pub fn numbers_of(a: &[u8], numbers: &mut [u32; Numbers::MOST]) -> bool {
+    if a.len() % 4 != 0 {
+        return false;
+    }
+    if a.len() > 4 * Numbers::MOST {
+        return false;
+    }
+    let mut i: usize = 0;
+    while i < a.len() / 4 {
+        numbers[i] = word_at(a, 4 * i);
+        i += 1;
+    }
+    true
+}

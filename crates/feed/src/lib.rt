@@ -1,0 +1,122 @@
+// What the programs share: lent buffers filled from standard input or a named file, answers sent, refusals said. An answer goes to standard output, whatever is no answer to standard error.
+ghost use Prim.Native.Nat.{_<_};
+use libc::STDIN_FILENO;
+use libc::STDOUT_FILENO;
+
+// How much of the buffer was filled, by all of the input or by as much as there is room for; or a read failed.
+pub enum Input {
+    Taken(usize),
+    Failed,
+}
+
+// How much memory the programs lend.
+pub struct Room;
+
+impl Room {
+    // "journal | 32,768 bytes"
+    pub const JOURNAL: usize = 32768;
+
+    // One byte more is read than a journal may have: an entry that is given it refuses the journal as too long.
+    pub const JOURNAL_INPUT: usize = Room::JOURNAL + 1;
+
+    // Three numbers of at most four bytes for each of 512 Satisfaction Orders.
+    pub const OWN_SHEET: usize = 6144;
+
+    // No more of a sheet is read: the first number that can't be read or the first extra byte lies no further in than our own sheet can reach, so what is cut off here decides nothing.
+    pub const SHEET_INPUT: usize = 65537;
+}
+
+// Reads until buf is full or the input ends.
+pub fn take(fd: i32, buf: &mut [u8]) -> Input {
+    let mut done: usize = 0;
+    while done < buf.len() {
+        let part = &mut buf[done..];
+        let got = libc::read(fd, part);
+        if got < 0 {
+            return Input::Failed;
+        }
+        let n = io::count(got, part);
+        if n == 0 {
+            return Input::Taken(done);
+        }
+        done += n;
+    }
+    Input::Taken(done)
+}
+
+pub fn standard_input(buf: &mut [u8]) -> Input {
+    let got = take(STDIN_FILENO, buf);
+    if let Input::Failed = got {
+        os::fail(b"standard input");
+    }
+    got
+}
+
+// Reads the file that argument i names.
+pub fn file(i: usize, buf: &mut [u8]) -> Input {
+    let mut path = io::buffer();
+    let n = os::arg(i, &mut path);
+    if os::errno() != 0 {
+        os::fail(b"argument");
+        return Input::Failed;
+    }
+    let fd = os::open_read(&path[..n]);
+    if fd < 0 {
+        os::fail(&path[..n]);
+        return Input::Failed;
+    }
+    let got = take(fd, buf);
+    if let Input::Failed = got {
+        os::fail(&path[..n]);
+    }
+    libc::close(fd);
+    got
+}
+
+// What an entry answers as one number: a refusal's number × 2^32 + its place, or how much was written.
+pub struct Answer {
+    pub refusal: u64,
+    pub low: u64,
+}
+
+impl Answer {
+    pub const REFUSAL_UNIT: u64 = 4294967296;
+
+    pub fn of(coded: u64) -> Answer
+        ensures { λ r. ⌜ r .low < 4294967296 ⌝ }
+    {
+        Answer {
+            refusal: coded / Answer::REFUSAL_UNIT,
+            low: coded % Answer::REFUSAL_UNIT,
+        }
+    }
+}
+
+// Sends the first n bytes of out to standard output.
+pub fn send(out: &[u8], n: usize) -> bool {
+    if out.len() < n {
+        return false;
+    }
+    let sent = io::write_all(STDOUT_FILENO, &out[..n]);
+    if !sent {
+        os::fail(b"standard output");
+    }
+    sent
+}
+
+// "It prints `refused 2 at 0` (number, place)"
+pub fn refused(fd: i32, answer: Answer) {
+    io::write_all(fd, b"refused ");
+    io::print_decimal(fd, answer.refusal);
+    io::write_all(fd, b" at ");
+    io::print_decimal(fd, answer.low);
+    io::write_all(fd, b"\n");
+}
+
+// The time so far after a record; past the day it only has to stay past it.
+pub fn later(time: u32, milliseconds: u32) -> u32 {
+    if u32::MAX - time < milliseconds {
+        return u32::MAX;
+    }
+    time + milliseconds
+}

@@ -1,0 +1,240 @@
+//! Home trades with the snapshot that judges their Satisfaction Orders: reasons, claims, due totals.
+
+use crate::event::{HomeTrade, Order, Quote, Response, SIDES, Satisfaction, Side, Status};
+use crate::header::{Exchanges, Header};
+use crate::journal::{Moment, Watcher};
+use crate::market::Market;
+use crate::orders::OpenOrders;
+use crate::time::Time;
+
+/// The reasons on a Satisfaction Order.
+pub mod reason {
+    pub const NONE: u8 = 0;
+    pub const ORDER_UNANSWERED: u8 = 2;
+    pub const SENDER_NON_FIRM: u8 = 3;
+    pub const HOME_NON_FIRM: u8 = 4;
+    pub const SENDER_IN_ROTATION: u8 = 5;
+    pub const HOME_IN_ROTATION: u8 = 6;
+    pub const COMPLEX: u8 = 7;
+    pub const LATE: u8 = 8;
+    pub const LATE_FOR_INITIATOR: u8 = 9;
+    pub const NOT_TRADED_THROUGH: u8 = 10;
+    pub const TRADE_PRICE_NO_BLOCK: u8 = 11;
+    pub const NOT_THE_PRICE: u8 = 12;
+    pub const NO_CUSTOMERS: u8 = 13;
+}
+
+/// What a trade settles for one exchange: "prices, customer contracts and statuses are those at the trade".
+#[derive(Clone, Copy)]
+struct Standing {
+    /// The first reason that the trade alone decides (10, 2 to 7), or none.
+    reason: u8,
+    /// The bid or offer traded through.
+    price: u32,
+    customers: u32,
+}
+
+impl Standing {
+    const NOT_TRADED_THROUGH: Standing = Standing { reason: reason::NOT_TRADED_THROUGH, price: 0, customers: 0 };
+}
+
+pub struct Trade {
+    price: u32,
+    pub size: u32,
+    initiated: bool,
+    pub block: bool,
+    /// A Satisfaction Order received later than this is late.
+    last_timely: u32,
+    /// How many away exchanges were traded through.
+    pub traded_through: u32,
+    /// "The trade is larger than the customer firm size with any exchange traded through, asked or not."
+    pub larger_than_firm: bool,
+    standings: [Standing; Exchanges::MOST as usize],
+    lines: [u16; Trade::MOST_LINES],
+    line_count: usize,
+}
+
+impl Trade {
+    /// One for each away exchange.
+    pub const MOST_LINES: usize = Exchanges::MOST as usize - 1;
+
+    /// Its lines of the sheet, in their order.
+    pub fn lines(&self) -> &[u16] {
+        &self.lines[..self.line_count]
+    }
+
+    pub fn due_total(&self, sum_of_claims: u32) -> u32 {
+        if self.larger_than_firm { self.size.min(sum_of_claims) } else { sum_of_claims }
+    }
+
+    /// "Reasons on a Satisfaction Order, first that holds."
+    fn reason(&self, received: u32, order: &Satisfaction) -> u8 {
+        let standing = &self.standings[order.from];
+        if standing.reason != reason::NONE {
+            return standing.reason;
+        }
+        if received > self.last_timely {
+            return if self.initiated { reason::LATE_FOR_INITIATOR } else { reason::LATE };
+        }
+        if order.price == self.price && !self.block {
+            return reason::TRADE_PRICE_NO_BLOCK;
+        }
+        let required = if self.block { self.price } else { standing.price };
+        if order.price != required {
+            return reason::NOT_THE_PRICE;
+        }
+        if standing.customers == 0 { reason::NO_CUSTOMERS } else { reason::NONE }
+    }
+}
+
+/// What a Satisfaction Order comes to.
+#[derive(Clone, Copy)]
+pub struct Line {
+    pub reason: u8,
+    pub size: u32,
+    pub claim: u32,
+    pub customers: u32,
+}
+
+pub struct Desk<'h> {
+    pub header: &'h Header,
+    pub market: Market,
+    open_orders: OpenOrders,
+    pub trades: Vec<Trade>,
+    pub lines: Vec<Line>,
+}
+
+impl<'h> Desk<'h> {
+    pub fn new(header: &'h Header) -> Desk<'h> {
+        Desk {
+            header,
+            market: Market::default(),
+            open_orders: OpenOrders::default(),
+            trades: Vec::with_capacity(HomeTrade::MOST),
+            lines: Vec::with_capacity(Satisfaction::MOST),
+        }
+    }
+
+    pub fn sent_orders(&self) -> u32 {
+        self.open_orders.sent_orders()
+    }
+
+    fn home(&self) -> usize {
+        self.header.home as usize - 1
+    }
+
+    /// "Traded through if its bid is above the price or its offer below it."
+    fn side_traded_through(&self, exchange: usize, trade: &HomeTrade) -> Option<Side> {
+        SIDES.into_iter().find(|side| {
+            let shown = self.market.price(exchange, trade.series, *side);
+            side.is_better(shown, trade.price)
+        })
+    }
+
+    /// "500 or more contracts, price in cents times contracts at least 150,000, price below the best bid or above the
+    /// best offer, and block form 1 or 2."
+    fn is_block(&self, trade: &HomeTrade) -> bool {
+        const CONTRACTS: u32 = 500;
+        const VALUE: u64 = 150_000;
+        trade.block_form != 0
+            && trade.size >= CONTRACTS
+            && trade.price as u64 * trade.size as u64 >= VALUE
+            && SIDES.into_iter().any(|side| side.is_better(self.market.best(trade.series, side), trade.price))
+    }
+
+    /// "Report = trade time plus delay." With an initiator the 180,000 ms hold near the close too.
+    fn last_timely(&self, time: u32, trade: &HomeTrade) -> u32 {
+        let report = time + trade.delay;
+        let near_close = report >= self.header.close - Time::NEAR_CLOSE;
+        let to_claim = if near_close && !trade.initiated { Time::TO_CLAIM_NEAR_CLOSE } else { Time::TO_CLAIM };
+        report + to_claim
+    }
+
+    /// The reasons after 10 that are settled at the trade, in the paper's order.
+    fn reason_at_trade(&self, time: u32, trade: &HomeTrade, exchange: usize, side: Side) -> u8 {
+        let sender = self.market.status(exchange);
+        let home = self.market.status(self.home());
+        if self.open_orders.excuse(exchange, trade.series, side, time) {
+            reason::ORDER_UNANSWERED
+        } else if sender == Status::NON_FIRM {
+            reason::SENDER_NON_FIRM
+        } else if !trade.initiated && home == Status::NON_FIRM {
+            reason::HOME_NON_FIRM
+        } else if sender == Status::ROTATION {
+            reason::SENDER_IN_ROTATION
+        } else if home == Status::ROTATION {
+            reason::HOME_IN_ROTATION
+        } else if trade.complex {
+            reason::COMPLEX
+        } else {
+            reason::NONE
+        }
+    }
+
+    pub fn judge_trade(&mut self, time: u32, home_trade: &HomeTrade) -> &Trade {
+        let mut trade = Trade {
+            price: home_trade.price,
+            size: home_trade.size,
+            initiated: home_trade.initiated,
+            block: self.is_block(home_trade),
+            last_timely: self.last_timely(time, home_trade),
+            traded_through: 0,
+            larger_than_firm: false,
+            standings: [Standing::NOT_TRADED_THROUGH; Exchanges::MOST as usize],
+            lines: [0; Trade::MOST_LINES],
+            line_count: 0,
+        };
+        for exchange in (0..self.header.exchanges as usize).filter(|&exchange| exchange != self.home()) {
+            let Some(side) = self.side_traded_through(exchange, home_trade) else {
+                continue;
+            };
+            trade.traded_through += 1;
+            trade.larger_than_firm |= trade.size > self.header.customer_firm_size(exchange);
+            trade.standings[exchange] = Standing {
+                reason: self.reason_at_trade(time, home_trade, exchange, side),
+                price: self.market.price(exchange, home_trade.series, side),
+                customers: self.market.customers(exchange, home_trade.series, side),
+            };
+        }
+        self.trades.push(trade);
+        &self.trades[self.trades.len() - 1]
+    }
+}
+
+impl Watcher for Desk<'_> {
+    #[inline(always)]
+    fn quote(&mut self, _at: Moment, quote: &Quote) {
+        self.market.quote(quote);
+        self.open_orders.quote(quote);
+    }
+
+    fn status(&mut self, status: &Status) {
+        self.market.set_status(status);
+    }
+
+    fn home_trade(&mut self, at: Moment, trade: &HomeTrade) {
+        self.judge_trade(at.time, trade);
+    }
+
+    fn sent_order(&mut self, at: Moment, order: &Order) {
+        self.open_orders.send(at.time, order);
+    }
+
+    /// A response that fills less leaves the order standing as an excuse.
+    fn response(&mut self, response: &Response, size: u32) {
+        if response.filled == size {
+            self.open_orders.fill_in_full(response.order);
+        }
+    }
+
+    /// "Claim: 0 for a reason other than 0; else the least of order size, customer contracts and trade size."
+    fn satisfaction_order(&mut self, at: Moment, order: &Satisfaction) {
+        let trade = &mut self.trades[order.trade];
+        let reason = trade.reason(at.time, order);
+        let customers = trade.standings[order.from].customers;
+        let claim = if reason == reason::NONE { order.size.min(customers).min(trade.size) } else { 0 };
+        trade.lines[trade.line_count] = self.lines.len() as u16;
+        trade.line_count += 1;
+        self.lines.push(Line { reason, size: order.size, claim, customers });
+    }
+}

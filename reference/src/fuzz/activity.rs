@@ -1,0 +1,503 @@
+//! Journals grown record by record from what a market does, so that every verdict, reason and share comes up.
+
+use super::chance::Chance;
+use super::values;
+use crate::header::Header;
+use crate::number::put;
+
+const LAST_TIME: u32 = 86_399_999;
+
+/// A trade as its Satisfaction Orders need it.
+#[derive(Clone, Copy)]
+struct Made {
+    price: u32,
+    report: u32,
+    /// Bid and offer of each exchange at the trade.
+    shown: [[u32; 2]; 9],
+    /// One bit for each exchange that has sent a Satisfaction Order.
+    asked: u32,
+}
+
+struct Sent {
+    size: u32,
+    answered: bool,
+}
+
+pub struct Activity<'c> {
+    pub chance: &'c mut Chance,
+    pub bytes: Vec<u8>,
+    /// How many records go well before one with a fault.
+    pub until_fault: Option<usize>,
+    pub home: u32,
+    pub exchanges: u32,
+    close: u32,
+    pub time: u32,
+    /// The series that are traded.
+    pub series: Vec<u32>,
+    pub level: u32,
+    /// Bid and offer by series and exchange.
+    shown: [[[u32; 2]; 9]; 32],
+    statuses: [u32; 9],
+    trades: Vec<Made>,
+    sent: Vec<Sent>,
+    pub satisfactions: usize,
+}
+
+/// The number as stored, of any size.
+pub fn put_number(bytes: &mut Vec<u8>, number: u32) {
+    let mut stored = [0; 5];
+    let end = put(&mut stored, 0, number);
+    bytes.extend_from_slice(&stored[..end]);
+}
+
+impl<'c> Activity<'c> {
+    pub fn open(chance: &'c mut Chance, header: &[u32; Header::NUMBERS]) -> Activity<'c> {
+        let mut bytes = Vec::new();
+        for &number in &header[..3 + 2 * header[1] as usize] {
+            put_number(&mut bytes, number);
+        }
+        let series = (0..chance.between(1, 2)).map(|_| values::series(chance)).collect();
+        let level = values::level(chance);
+        Activity {
+            chance,
+            bytes,
+            until_fault: None,
+            home: header[0],
+            exchanges: header[1],
+            close: header[2],
+            time: 0,
+            series,
+            level,
+            shown: [[[0; 2]; 9]; 32],
+            statuses: [0; 9],
+            trades: Vec::new(),
+            sent: Vec::new(),
+            satisfactions: 0,
+        }
+    }
+
+    pub fn trades(&self) -> usize {
+        self.trades.len()
+    }
+
+    pub fn sent(&self) -> usize {
+        self.sent.len()
+    }
+
+    /// Adds a record, or one with a fault where one is wanted.
+    fn add(&mut self, kind: u32, milliseconds: u32, fields: &[u32]) {
+        if self.until_fault == Some(0) {
+            super::faults::add_faulty(self, kind, milliseconds, fields);
+        } else {
+            self.add_as_is(kind, milliseconds, fields);
+        }
+        self.until_fault = self.until_fault.map(|left| left.wrapping_sub(1));
+    }
+
+    pub fn add_as_is(&mut self, kind: u32, milliseconds: u32, fields: &[u32]) {
+        for &number in [kind, milliseconds].iter().chain(fields) {
+            put_number(&mut self.bytes, number);
+        }
+        self.time = self.time.saturating_add(milliseconds);
+    }
+
+    /// Milliseconds until the next record; never past the day.
+    fn pause(&mut self) -> u32 {
+        let milliseconds = match self.chance.below(24) {
+            0..=12 => 0,
+            13..=17 => self.chance.between(1, 1_000),
+            18..=20 => self.chance.between(1_000, 30_000),
+            21 => self.chance.pick(&[19_999, 20_000, 20_001]),
+            22 => self.chance.pick(&[59_999, 60_000, 60_001, 127, 128]),
+            _ => self.chance.pick(&[179_999, 180_000, 180_001]),
+        };
+        if milliseconds > LAST_TIME - self.time.min(LAST_TIME) { 0 } else { milliseconds }
+    }
+
+    /// Milliseconds until a time, or a pause where it has passed or lies beyond the day.
+    fn until(&mut self, time: u32) -> u32 {
+        if (self.time..=LAST_TIME).contains(&time) { time - self.time } else { self.pause() }
+    }
+
+    pub fn away(&mut self) -> u32 {
+        1 + (self.home + self.chance.below(self.exchanges as usize - 1) as u32) % self.exchanges
+    }
+
+    fn away_exchanges(&self) -> Vec<u32> {
+        (1..=self.exchanges).filter(|&exchange| exchange != self.home).collect()
+    }
+
+    fn a_series(&mut self) -> u32 {
+        let at = self.chance.below(self.series.len());
+        self.series[at]
+    }
+
+    /// A price some cents around the level.
+    fn price_around(&mut self, cents: u32) -> u32 {
+        let shift = self.chance.between(0, 2 * cents);
+        (self.level + shift).saturating_sub(cents).clamp(1, 1_000_000)
+    }
+
+    /// Some time of the day, often near the close or the end.
+    pub fn move_on(&mut self) {
+        let near_close = self.close.saturating_sub(self.chance.between(250_000, 1_000_000));
+        let late = LAST_TIME - self.chance.between(0, 300_000);
+        let some = self.chance.between(0, LAST_TIME);
+        let time = self.chance.weighted(&[(4, 34_200_000), (4, near_close), (1, late), (1, some)]);
+        if time > self.time {
+            let exchange = self.away();
+            self.add(2, time - self.time, &[exchange, self.statuses[exchange as usize]]);
+        }
+    }
+
+    pub fn quote(&mut self, exchange: u32, series: u32, prices: [u32; 2]) {
+        let size = values::contracts(self.chance);
+        let held = values::customers(self.chance, size);
+        self.quote_held(exchange, series, prices, size, held);
+    }
+
+    /// A quote with this size and these customer contracts on each side that is shown.
+    fn quote_held(&mut self, exchange: u32, series: u32, prices: [u32; 2], size: u32, held: u32) {
+        let mut fields = vec![exchange, series];
+        for price in prices {
+            fields.extend(if price == 0 { [0, 0, 0] } else { [price, size, held] });
+        }
+        let milliseconds = self.pause();
+        self.add(1, milliseconds, &fields);
+        self.shown[series as usize][exchange as usize] = prices;
+    }
+
+    pub fn quote_around(&mut self, exchange: u32) {
+        let series = self.a_series();
+        let mut bid = self.price_around(3);
+        let mut offer = bid + self.chance.between(1, 4);
+        if offer > 1_000_000 || self.chance.one_in(10) {
+            offer = 0;
+        }
+        if self.chance.one_in(10) {
+            bid = 0;
+        }
+        self.quote(exchange, series, [bid, offer]);
+    }
+
+    /// A home quote one cent below, at or above what an away exchange shows on the other side.
+    pub fn home_quote_at_an_away_price(&mut self) {
+        let (series, away) = (self.a_series(), self.away());
+        let [bid, offer] = self.shown[series as usize][away as usize];
+        let shift = self.chance.between(0, 2);
+        let wide = self.chance.between(1, 5);
+        if offer > 1 && self.chance.one_in(2) {
+            let own = (offer + shift - 1).min(1_000_000);
+            let other = if own + wide > 1_000_000 || self.chance.one_in(4) { 0 } else { own + wide };
+            self.quote(self.home, series, [own, other]);
+        } else if bid > 1 {
+            let own = (bid + shift - 1).min(1_000_000);
+            let other = if self.chance.one_in(4) { 0 } else { own.saturating_sub(wide) };
+            self.quote(self.home, series, [other, own]);
+        } else {
+            self.quote_around(self.home);
+        }
+    }
+
+    pub fn status(&mut self, exchange: u32, status: u32) {
+        let milliseconds = self.pause();
+        self.add(2, milliseconds, &[exchange, status]);
+        self.statuses[exchange as usize] = status;
+    }
+
+    pub fn some_status(&mut self) {
+        let exchange = if self.chance.one_in(3) { self.home } else { self.away() };
+        let status = self.chance.weighted(&[(5, 0), (2, 1), (2, 2)]);
+        self.status(exchange, status);
+    }
+
+    pub fn all_firm(&mut self) {
+        for exchange in 1..=self.exchanges {
+            if self.statuses[exchange as usize] != 0 {
+                self.status(exchange, 0);
+            }
+        }
+    }
+
+    /// A trade reported after a delay, made at a time or after a pause.
+    fn trade_at(&mut self, milliseconds: u32, series: u32, price: u32, size: u32, delay: u32) {
+        let form = self.chance.weighted(&[(5, 0), (2, 1), (2, 2)]);
+        let complex = self.chance.one_in(12) as u32;
+        let initiator = if self.chance.one_in(4) { self.away() } else { 0 };
+        let report = self.time.saturating_add(milliseconds + delay);
+        self.add(3, milliseconds, &[series, price, size, form, complex, initiator, delay]);
+        self.trades.push(Made { price, report, shown: self.shown[series as usize], asked: 0 });
+    }
+
+    fn delay(&mut self) -> u32 {
+        self.chance.weighted(&[(4, 0), (2, 1_000), (1, 90_000), (1, 599_999), (1, 600_000)])
+    }
+
+    pub fn trade(&mut self) {
+        let (series, price) = (self.a_series(), self.price_around(6));
+        let size = values::contracts(self.chance);
+        let (milliseconds, delay) = (self.pause(), self.delay());
+        self.trade_at(milliseconds, series, price, size, delay);
+    }
+
+    /// A trade around the least that makes a block, outside the best prices or not.
+    pub fn block_trade(&mut self) {
+        let series = self.a_series();
+        let price = self.chance.pick(&[1, 299, 300, 301, 400, 1_000_000]);
+        let size = self.chance.pick(&[499, 500, 501, 100_000]);
+        let exchange = self.chance.between(1, self.exchanges);
+        let shift = self.chance.between(0, 2);
+        let outside = (price + shift).saturating_sub(1).min(1_000_000);
+        let bid_side = self.chance.one_in(2);
+        self.quote(exchange, series, if bid_side { [outside, 0] } else { [0, outside] });
+        let (milliseconds, delay) = (self.pause(), self.delay());
+        self.trade_at(milliseconds, series, price, size, delay);
+        if exchange != self.home {
+            self.satisfaction(self.trades.len() - 1, exchange);
+        }
+    }
+
+    /// Several exchanges show better prices than a trade, and most of them ask for satisfaction. Often they hold the
+    /// same or a multiple of the same, so that shares come out level.
+    pub fn shared_trade(&mut self) {
+        if self.chance.percent(75) {
+            self.all_firm();
+        } else {
+            let (home, away) = (self.home, self.away());
+            for exchange in [home, away] {
+                let status = self.chance.between(0, 2);
+                self.status(exchange, status);
+            }
+        }
+        let series = self.a_series();
+        let price = self.level.clamp(8, 999_990);
+        let even = self.chance.one_in(2).then(|| self.chance.pick(&[10, 30, 30, 12, 500]));
+        let senders = self.quote_better(series, price, even);
+        let size = match even {
+            Some(held) => self.chance.between(10, 2 * held),
+            None => values::contracts(self.chance),
+        };
+        let (milliseconds, delay) = (self.pause(), self.delay());
+        self.trade_at(milliseconds, series, price, size, delay);
+        for sender in senders {
+            let size = even.unwrap_or_else(|| values::contracts(self.chance));
+            if self.chance.percent(90) {
+                self.satisfaction_of(size, self.trades.len() - 1, sender);
+            }
+        }
+    }
+
+    /// Some away exchanges show bids above a price or offers below it; answers which.
+    fn quote_better(&mut self, series: u32, price: u32, even: Option<u32>) -> Vec<u32> {
+        let bids = self.chance.one_in(2);
+        let mut senders = self.away_exchanges();
+        self.chance.shuffle(&mut senders);
+        senders.truncate(1 + self.chance.below(senders.len()));
+        for &sender in &senders {
+            let cents = self.chance.between(1, 4);
+            let prices = if bids { [price + cents, 0] } else { [0, price - cents] };
+            match even {
+                Some(held) => {
+                    let held = held * self.chance.pick(&[1, 1, 1, 2, 3]);
+                    self.quote_held(sender, series, prices, held, held);
+                }
+                None => self.quote(sender, series, prices),
+            }
+        }
+        self.chance.shuffle(&mut senders);
+        senders
+    }
+
+    /// A trade whose report lies around close less 300,000, and Satisfaction Orders around the last timely moment.
+    pub fn trade_near_close(&mut self) {
+        let (series, delay) = (self.a_series(), self.delay());
+        let price = self.level.clamp(8, 999_990);
+        for exchange in self.away_exchanges() {
+            self.quote(exchange, series, [price + 1, 0]);
+        }
+        let shift = self.chance.between(0, 2);
+        let report = (self.close - 300_000 + shift).saturating_sub(1);
+        let milliseconds = self.until(report.saturating_sub(delay));
+        let size = values::contracts(self.chance);
+        self.trade_at(milliseconds, series, price, size, delay);
+        for exchange in self.away_exchanges() {
+            self.satisfaction(self.trades.len() - 1, exchange);
+        }
+    }
+
+    /// A trade whose Satisfaction Order any exchange may still send, if there is one.
+    pub fn satisfaction_for_some_trade(&mut self) {
+        if self.trades.is_empty() {
+            return self.trade();
+        }
+        let recent = self.trades.len().min(3);
+        let trade = self.trades.len() - 1 - self.chance.below(recent);
+        let exchange = self.away();
+        self.satisfaction(trade, exchange);
+    }
+
+    pub fn satisfaction(&mut self, trade: usize, from: u32) {
+        let size = values::contracts(self.chance);
+        self.satisfaction_of(size, trade, from);
+    }
+
+    /// A Satisfaction Order of this size, unless the exchange has sent one for the trade.
+    fn satisfaction_of(&mut self, size: u32, trade: usize, from: u32) {
+        let made = self.trades[trade];
+        if made.asked >> from & 1 == 1 {
+            return;
+        }
+        let [bid, offer] = made.shown[from as usize];
+        let through = if bid > made.price || offer == 0 { bid } else { offer };
+        let shift = self.chance.between(0, 2);
+        let price = self.chance.weighted(&[(14, through), (3, made.price), (2, through + shift)]);
+        let milliseconds = if self.chance.percent(15) {
+            let allowed = self.chance.pick(&[60_000, 60_001, 180_000, 180_001]);
+            self.until(made.report.saturating_add(allowed))
+        } else {
+            self.pause()
+        };
+        self.add(7, milliseconds, &[trade as u32, from, price.clamp(1, 1_000_000), size]);
+        self.trades[trade].asked |= 1 << from;
+        self.satisfactions += 1;
+    }
+
+    /// An order with the price that the receiver shows, or one near it.
+    fn order(&mut self, kind: u32, away: u32, receiver: u32, milliseconds: u32) {
+        let (series, side) = (self.a_series(), self.chance.between(1, 2));
+        let shown = self.shown[series as usize][receiver as usize][if side == 1 { 1 } else { 0 }];
+        let shift = self.chance.between(0, 2);
+        let around = self.price_around(3);
+        let price = self.chance.weighted(&[(6, shown), (2, (shown + shift).saturating_sub(1)), (1, around)]);
+        let size = values::contracts(self.chance);
+        let order_type = self.chance.between(1, 2);
+        self.add(kind, milliseconds, &[order_type, away, series, side, price.clamp(1, 1_000_000), size]);
+        if kind == 4 {
+            self.sent.push(Sent { size, answered: false });
+        }
+    }
+
+    pub fn sent_order(&mut self) {
+        let (away, milliseconds) = (self.away(), self.pause());
+        self.order(4, away, away, milliseconds);
+    }
+
+    pub fn received_order(&mut self) {
+        let (away, milliseconds) = (self.away(), self.pause());
+        self.order(6, away, self.home, milliseconds);
+    }
+
+    pub fn response(&mut self) {
+        let waiting: Vec<usize> = (0..self.sent.len()).filter(|&order| !self.sent[order].answered).collect();
+        if waiting.is_empty() {
+            return self.sent_order();
+        }
+        let order = self.chance.pick(&waiting);
+        self.response_to(order);
+    }
+
+    fn response_to(&mut self, order: usize) {
+        let size = self.sent[order].size;
+        let part = self.chance.between(0, size);
+        let filled = self.chance.weighted(&[(3, size), (1, 0), (2, part)]);
+        let milliseconds = self.pause();
+        self.add(5, milliseconds, &[order as u32, filled]);
+        self.sent[order].answered = true;
+    }
+
+    /// An order to an exchange that meets a side of its quote.
+    fn send(&mut self, milliseconds: u32, away: u32, series: u32, side: u32, price: u32) {
+        let size = values::contracts(self.chance);
+        let order_type = self.chance.between(1, 2);
+        self.add(4, milliseconds, &[order_type, away, series, side, price, size]);
+        self.sent.push(Sent { size, answered: false });
+    }
+
+    /// One or two orders sent some 20 seconds before a trade through their receiver: answered or not, quoted away or
+    /// not.
+    pub fn trade_after_an_order(&mut self) {
+        let (series, away) = (self.a_series(), self.away());
+        let price = self.level.clamp(8, 999_990);
+        let bid_side = self.chance.one_in(2);
+        let show = |shown: u32| if bid_side { [shown, 0] } else { [0, shown] };
+        let (better, side) = if bid_side { (price + 2, 2) } else { (price - 2, 1) };
+        self.quote(away, series, show(better));
+        let order_price = better + self.chance.between(0, 2) - 1;
+        self.send(0, away, series, side, order_price);
+        let sent_at = self.time;
+        if self.chance.one_in(3) {
+            let order_price = better + self.chance.between(0, 2) - 1;
+            let later = self.until(sent_at.saturating_add(10_000));
+            self.send(later, away, series, side, order_price);
+        }
+        for _ in 0..self.chance.below(4) {
+            match self.chance.below(4) {
+                0 if !self.sent[self.sent.len() - 1].answered => self.response_to(self.sent.len() - 1),
+                1 => self.quote(away, series, [0, 0]),
+                2 => self.quote_around(away),
+                _ => self.quote(away, series, show(better)),
+            }
+        }
+        let shown_last = better + self.chance.between(0, 2) - 1;
+        if self.chance.one_in(2) {
+            self.quote(away, series, show(shown_last));
+        }
+        let wait = self.chance.pick(&[19_999, 20_000, 20_001, 20_001, 29_999, 30_001, 40_000]);
+        let milliseconds = self.until(sent_at.saturating_add(wait));
+        let size = values::contracts(self.chance);
+        self.trade_at(milliseconds, series, price, size, 0);
+        self.satisfaction(self.trades.len() - 1, away);
+    }
+
+    /// One thing that happens on the market.
+    pub fn something(&mut self) {
+        let happens: fn(&mut Activity<'c>) = self.chance.weighted(&[
+            (26, |day| {
+                let away = day.away();
+                day.quote_around(away);
+            }),
+            (6, |day| day.quote_around(day.home)),
+            (6, |day| day.home_quote_at_an_away_price()),
+            (5, |day| day.some_status()),
+            (9, |day| day.received_order()),
+            (7, |day| day.sent_order()),
+            (6, |day| day.response()),
+            (5, |day| day.trade()),
+            (12, |day| day.satisfaction_for_some_trade()),
+            (2, |day| day.block_trade()),
+            (5, |day| day.shared_trade()),
+            (1, |day| day.trade_near_close()),
+            (3, |day| day.trade_after_an_order()),
+        ]);
+        happens(self);
+    }
+
+    /// One thing that is not numbered, of which there may be any number.
+    pub fn something_without_numbers(&mut self) {
+        match self.chance.below(8) {
+            0 => self.some_status(),
+            1 | 2 => self.received_order(),
+            3 => self.home_quote_at_an_away_price(),
+            _ => {
+                let exchange = self.chance.between(1, self.exchanges);
+                self.quote_around(exchange);
+            }
+        }
+    }
+
+    /// Quotes, then what it takes until the journal has exactly this many bytes: records of four, ten and eleven.
+    pub fn fill_up(&mut self, length: usize) {
+        while self.bytes.len() + 48 <= length {
+            let exchange = self.chance.between(1, self.exchanges);
+            self.quote_around(exchange);
+        }
+        while self.bytes.len() < length {
+            let away = self.away();
+            match (length - self.bytes.len()) % 4 {
+                0 => self.add(2, 0, &[away, 0]),
+                2 => self.add(1, 0, &[away, 0, 1, 1, 0, 0, 0, 0]),
+                _ => self.add(1, 0, &[away, 0, 128, 1, 0, 0, 0, 0]),
+            }
+        }
+    }
+}

@@ -1,0 +1,105 @@
+//! Records with one fault, and bytes damaged anywhere.
+
+use super::activity::{Activity, put_number};
+use super::chance::Chance;
+use super::values;
+
+/// Adds the record with one thing wrong, or what is wrong only beside the records before it.
+pub fn add_faulty(day: &mut Activity, kind: u32, milliseconds: u32, fields: &[u32]) {
+    match day.chance.below(8) {
+        0 => {
+            let unknown = day.chance.pick(&[0, 8, 9, 10, 127, 128, 16_384, 268_435_455]);
+            day.add_as_is(unknown, milliseconds, fields);
+        }
+        1 => {
+            let beyond = 86_399_999 - day.time.min(86_399_999) + day.chance.between(0, 1);
+            day.add_as_is(kind, beyond, fields);
+        }
+        2 => add_with_a_long_number(day, kind, milliseconds, fields),
+        3 => add_unsound_quote(day, milliseconds),
+        4 => add_unknown_or_twice(day, milliseconds),
+        _ => {
+            let mut fields = fields.to_vec();
+            let field = day.chance.below(fields.len());
+            fields[field] = values::near_an_end(day.chance, kind, field, day.home, day.exchanges);
+            day.add_as_is(kind, milliseconds, &fields);
+        }
+    }
+}
+
+/// One of the numbers longer than needed, or over 4 bytes.
+fn add_with_a_long_number(day: &mut Activity, kind: u32, milliseconds: u32, fields: &[u32]) {
+    let numbers: Vec<u32> = [kind, milliseconds].iter().chain(fields).copied().collect();
+    let long = day.chance.below(numbers.len());
+    for (at, &number) in numbers.iter().enumerate() {
+        put_number(&mut day.bytes, number);
+        if at == long {
+            let last = day.bytes.len() - 1;
+            day.bytes[last] |= 0x80;
+            let extra: &[&[u8]] = &[&[0], &[0x80, 0], &[0x80, 0x80, 0x80, 1], &[0xFF, 0xFF, 0xFF, 0xFF]];
+            let extra = day.chance.pick(extra);
+            day.bytes.extend_from_slice(extra);
+        }
+    }
+}
+
+/// "Both sides and bid not below offer; a price 0 with a size or customers; a price with size 0; customers above size."
+fn add_unsound_quote(day: &mut Activity, milliseconds: u32) {
+    let (exchange, series) = (day.away(), day.series[0]);
+    let sides = day.chance.pick(&[
+        [100, 5, 5, 100, 5, 5],
+        [101, 5, 5, 100, 5, 5],
+        [0, 1, 0, 100, 5, 5],
+        [0, 0, 1, 100, 5, 5],
+        [100, 5, 5, 0, 1, 1],
+        [100, 0, 0, 101, 5, 5],
+        [100, 5, 5, 101, 0, 0],
+        [100, 5, 6, 101, 5, 5],
+        [100, 5, 5, 101, 5, 6],
+        [0, 0, 0, 0, 0, 1],
+    ]);
+    let fields: Vec<u32> = [exchange, series].into_iter().chain(sides).collect();
+    day.add_as_is(1, milliseconds, &fields);
+}
+
+/// Numbers that name nothing or something a second time, fills at and above an order.
+fn add_unknown_or_twice(day: &mut Activity, milliseconds: u32) {
+    let away = day.away();
+    if day.chance.one_in(2) {
+        let trades = day.trades() as u32;
+        let trade = day.chance.pick(&[trades, trades + 1, trades.saturating_sub(1), 0, 128, 268_435_455]);
+        day.add_as_is(7, milliseconds, &[trade, away, 100, 5]);
+        day.add_as_is(7, 0, &[trade, away, 100, 5]);
+    } else {
+        let sent = day.sent() as u32;
+        let order = day.chance.pick(&[sent, sent + 1, sent.saturating_sub(1), 0, 256, 268_435_455]);
+        let filled = day.chance.pick(&[0, 1, 10, 100, 99_999, 100_000, 100_001]);
+        day.add_as_is(5, milliseconds, &[order, filled]);
+        day.add_as_is(5, 0, &[order, filled]);
+    }
+}
+
+/// Changes, loses, repeats or adds bytes somewhere.
+pub fn damage(chance: &mut Chance, bytes: &mut Vec<u8>) {
+    let at = chance.below(bytes.len() + 1);
+    match chance.below(9) {
+        0 => bytes.truncate(at),
+        1 => bytes.truncate(bytes.len().saturating_sub(chance.below(4))),
+        2 => {
+            let byte = chance.byte();
+            bytes.insert(at, byte);
+        }
+        3 => bytes.extend((0..chance.below(6)).map(|_| chance.byte())),
+        4 if at < bytes.len() => {
+            bytes.remove(at);
+        }
+        5 if at < bytes.len() => bytes[at] ^= 1 << chance.below(8),
+        6 if at < bytes.len() => bytes[at] = chance.pick(&[0, 1, 0x7F, 0x80, 0x81, 0xFF]),
+        7 => {
+            let end = (at + chance.below(24)).min(bytes.len());
+            bytes.extend_from_within(at..end);
+        }
+        _ if at < bytes.len() => bytes[at] = chance.byte(),
+        _ => {}
+    }
+}

@@ -1,0 +1,177 @@
+//! Which journals are asked about: usual days, faulty and damaged ones, days at every limit.
+
+use super::activity::{Activity, put_number};
+use super::chance::Chance;
+use super::{faults, values};
+use crate::header::Header;
+
+#[derive(Clone, Copy)]
+enum Day {
+    Usual,
+    WithFault,
+    Damaged,
+    OnlyHeader,
+    Noise,
+    ManyTrades,
+    ManySent,
+    ManySatisfactions,
+    Full,
+    TooLong,
+}
+
+/// Mostly days with trades that are shared out, for questions about sheets.
+pub fn journal_with_claims(chance: &mut Chance) -> Vec<u8> {
+    if chance.one_in(3) {
+        return journal(chance);
+    }
+    let header = values::header(chance);
+    let trades = 1 + chance.below(4);
+    let mut day = Activity::open(chance, &header);
+    for _ in 0..trades {
+        day.something();
+        day.shared_trade();
+    }
+    day.bytes
+}
+
+pub fn journal(chance: &mut Chance) -> Vec<u8> {
+    let day = chance.weighted(&[
+        (600, Day::Usual),
+        (170, Day::WithFault),
+        (110, Day::Damaged),
+        (50, Day::OnlyHeader),
+        (20, Day::Noise),
+        (6, Day::ManyTrades),
+        (6, Day::ManySent),
+        (10, Day::ManySatisfactions),
+        (12, Day::Full),
+        (6, Day::TooLong),
+    ]);
+    match day {
+        Day::Usual => usual(chance, None),
+        Day::WithFault => {
+            let until = chance.below(30);
+            usual(chance, Some(until))
+        }
+        Day::Damaged => damaged(chance),
+        Day::OnlyHeader => only_header(chance),
+        Day::Noise => (0..chance.below(60)).map(|_| chance.byte()).collect(),
+        Day::ManyTrades => many(chance, 128, |day| day.trades(), |day| day.trade()),
+        Day::ManySent => many(chance, 256, |day| day.sent(), |day| day.sent_order()),
+        Day::ManySatisfactions => many_satisfactions(chance),
+        Day::Full => full(chance),
+        Day::TooLong => too_long(chance),
+    }
+}
+
+fn usual(chance: &mut Chance, until_fault: Option<usize>) -> Vec<u8> {
+    let header = values::header(chance);
+    let steps = match chance.below(20) {
+        0..=2 => chance.below(4),
+        3..=13 => 3 + chance.below(20),
+        14..=18 => 10 + chance.below(60),
+        _ => 50 + chance.below(300),
+    };
+    let mut day = Activity::open(chance, &header);
+    day.until_fault = until_fault;
+    if day.chance.percent(70) {
+        day.move_on();
+    }
+    for _ in 0..steps {
+        day.something();
+    }
+    day.bytes
+}
+
+fn damaged(chance: &mut Chance) -> Vec<u8> {
+    let mut bytes = usual(chance, None);
+    for _ in 0..1 + chance.below(3) {
+        faults::damage(chance, &mut bytes);
+    }
+    bytes
+}
+
+/// A header, perhaps with a number out of range or cut off, and perhaps some records after it.
+fn only_header(chance: &mut Chance) -> Vec<u8> {
+    let header = values::header_or_near(chance);
+    let mut bytes = Vec::new();
+    for &number in &header[..3 + 2 * header[1].min(8) as usize] {
+        put_number(&mut bytes, number);
+    }
+    if chance.one_in(3) {
+        faults::damage(chance, &mut bytes);
+    }
+    if chance.one_in(3) {
+        bytes.extend([2, 0, 1, 0]);
+    }
+    bytes
+}
+
+/// As many of one thing as a journal may hold, or one more, among other activity.
+fn many(chance: &mut Chance, most: usize, count: fn(&Activity) -> usize, add: fn(&mut Activity)) -> Vec<u8> {
+    let header = values::header(chance);
+    let wanted = most + chance.below(2);
+    let busy = chance.one_in(3);
+    let mut day = Activity::open(chance, &header);
+    while count(&day) < wanted {
+        add(&mut day);
+        if busy && day.chance.one_in(4) && count(&day) + 4 < wanted {
+            day.something();
+        }
+    }
+    day.bytes
+}
+
+/// Around 512 Satisfaction Orders, the last perhaps for a trade that there is not.
+fn many_satisfactions(chance: &mut Chance) -> Vec<u8> {
+    let mut header = values::header(chance);
+    header[0] = chance.between(1, 8);
+    header[1] = 8;
+    for size in &mut header[3..] {
+        *size = 10;
+    }
+    let wanted = 511 + chance.below(3);
+    let mut day = Activity::open(chance, &header);
+    while day.satisfactions + 7 < wanted && day.trades() < 127 {
+        day.shared_trade();
+    }
+    for trade in (0..day.trades()).cycle().take(20 * 128) {
+        let away = day.away();
+        if day.satisfactions < wanted {
+            day.satisfaction(trade, away);
+        }
+    }
+    if day.chance.one_in(3) {
+        let (trade, away) = (day.trades() as u32, day.away());
+        day.add_as_is(7, 0, &[trade, away, 100, 5]);
+    }
+    day.bytes
+}
+
+/// Exactly as many bytes as a journal may have, or one fewer or more.
+fn full(chance: &mut Chance) -> Vec<u8> {
+    let header = values::header(chance);
+    let length = chance.pick(&[32_767, 32_768, 32_768, 32_769]);
+    let busy = chance.below(200);
+    let mut day = Activity::open(chance, &header);
+    if day.chance.one_in(3) {
+        day.series = (0..32).collect();
+    }
+    for _ in 0..busy {
+        day.something();
+    }
+    day.fill_up(length);
+    day.bytes
+}
+
+fn too_long(chance: &mut Chance) -> Vec<u8> {
+    let mut bytes = only_header(chance);
+    let length = chance.pick(&[32_769, 32_770, 40_000, 131_072]);
+    bytes.resize(length, 0);
+    bytes
+}
+
+/// A header's numbers and its bytes, for questions about single records.
+pub fn header_numbers(chance: &mut Chance) -> [u32; Header::NUMBERS] {
+    if chance.one_in(4) { values::header_or_near(chance) } else { values::header(chance) }
+}

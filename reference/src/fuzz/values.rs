@@ -1,0 +1,183 @@
+//! Numbers worth asking about: usual ones, the ends of each range, and those just outside.
+
+use super::chance::Chance;
+use crate::header::Header;
+use crate::record::Record;
+
+/// Larger than any number that can be stored, or the largest.
+const HUGE: [u32; 6] = [268_435_455, 268_435_456, 268_435_457, 1 << 31, u32::MAX - 1, u32::MAX];
+
+pub fn contracts(chance: &mut Chance) -> u32 {
+    match chance.below(20) {
+        0..=8 => chance.between(1, 20),
+        9..=13 => chance.between(1, 150),
+        14..=16 => chance.pick(&[1, 2, 9, 10, 11, 12, 20, 30, 127, 128]),
+        17 => chance.pick(&[499, 500, 501, 9_998, 9_999, 10_000]),
+        18 => chance.between(1, 3_000),
+        _ => chance.pick(&[1, 16_383, 16_384, 99_999, 100_000]),
+    }
+}
+
+pub fn customers(chance: &mut Chance, size: u32) -> u32 {
+    match chance.below(8) {
+        0 => 0,
+        1..=3 => size,
+        _ => chance.between(0, size),
+    }
+}
+
+pub fn series(chance: &mut Chance) -> u32 {
+    if chance.percent(60) { chance.pick(&[0, 31]) } else { chance.between(0, 31) }
+}
+
+/// A level of prices for a class.
+pub fn level(chance: &mut Chance) -> u32 {
+    match chance.below(10) {
+        0 => chance.between(1, 6),
+        1 => chance.between(999_990, 1_000_000),
+        2..=4 => chance.between(297, 303),
+        _ => chance.pick(&[50, 100, 126, 130, 400, 2_000, 16_383, 120_000]),
+    }
+}
+
+pub fn firm_size(chance: &mut Chance) -> u32 {
+    match chance.below(8) {
+        0..=4 => chance.between(10, 12),
+        5 => chance.pick(&[20, 25, 50, 127, 128]),
+        6 => chance.between(10, 9_999),
+        _ => 9_999,
+    }
+}
+
+pub fn close(chance: &mut Chance) -> u32 {
+    match chance.below(6) {
+        0 => chance.pick(&[300_000, 300_001, 86_399_999, 86_399_998]),
+        1 => chance.between(300_000, 86_399_999),
+        _ => chance.pick(&[57_600_000, 58_500_000]),
+    }
+}
+
+/// A header in range.
+pub fn header(chance: &mut Chance) -> [u32; Header::NUMBERS] {
+    let mut numbers = [0; Header::NUMBERS];
+    let exchanges = chance.weighted(&[(3, 2), (3, 3), (2, 4), (1, 5), (1, 6), (1, 7), (4, 8)]);
+    numbers[0] = chance.between(1, exchanges);
+    numbers[1] = exchanges;
+    numbers[2] = close(chance);
+    for size in &mut numbers[3..3 + 2 * exchanges as usize] {
+        *size = firm_size(chance);
+    }
+    numbers
+}
+
+/// A header that may have one number out of range, or sizes beyond the 2N that count.
+pub fn header_or_near(chance: &mut Chance) -> [u32; Header::NUMBERS] {
+    let mut numbers = header(chance);
+    let counting = 3 + 2 * numbers[1] as usize;
+    if chance.one_in(3) {
+        for size in &mut numbers[counting..] {
+            *size = chance.pick(&[0, 9, 10, 10_000, u32::MAX]);
+        }
+    }
+    if chance.one_in(3) {
+        let among = chance.pick(&[3, counting]);
+        let at = chance.below(among);
+        numbers[at] = match at {
+            0 => chance.pick(&[0, 1, numbers[1], numbers[1] + 1, 9, 128]),
+            1 => chance.pick(&[0, 1, 2, 8, 9, 16, 128]),
+            2 => chance.pick(&[0, 299_999, 300_000, 86_399_999, 86_400_000]),
+            _ => chance.pick(&[0, 9, 10, 9_999, 10_000, 16_384]),
+        };
+        if chance.one_in(4) {
+            numbers[at] = chance.pick(&HUGE);
+        }
+    }
+    numbers
+}
+
+/// Usual values and ends for each field of a kind, all in range when an exchange is at most N and not home.
+fn usual_fields(chance: &mut Chance, kind: u32, header: &[u32]) -> [u32; Record::MOST_FIELDS] {
+    let exchanges = header[1];
+    let away = 1 + (header[0] + chance.below(exchanges as usize - 1) as u32) % exchanges;
+    let price = chance.pick(&[1, 100, 127, 128, 300, 16_384, 999_999, 1_000_000]);
+    let size = contracts(chance);
+    let one_or_two = chance.between(1, 2);
+    match kind {
+        1 => quote_fields(chance, exchanges),
+        2 => [chance.between(1, exchanges), chance.between(0, 2), 0, 0, 0, 0, 0, 0],
+        3 => {
+            let initiator = chance.pick(&[0, away]);
+            let delay = chance.pick(&[0, 1, 127, 128, 600_000]);
+            [series(chance), price, size, chance.between(0, 2), chance.between(0, 1), initiator, delay, 0]
+        }
+        4 | 6 => [chance.between(1, 2), away, series(chance), one_or_two, price, size, 0, 0],
+        5 => [naming(chance), chance.pick(&[0, 1, size, 100_000]), 0, 0, 0, 0, 0, 0],
+        _ => [naming(chance), away, price, size, 0, 0, 0, 0],
+    }
+}
+
+fn naming(chance: &mut Chance) -> u32 {
+    chance.pick(&[0, 1, 127, 128, 255, 256, 512, 16_384, 2_097_152, 268_435_455])
+}
+
+fn quote_fields(chance: &mut Chance, exchanges: u32) -> [u32; Record::MOST_FIELDS] {
+    let bid = chance.pick(&[0, 1, 100, 127, 999_998, 999_999]);
+    let offer = chance.pick(&[0, bid + 1, bid + 1, 1_000_000]);
+    let sizes = [bid, offer].map(|price| if price == 0 { 0 } else { contracts(chance) });
+    let held = sizes.map(|size| customers(chance, size));
+    [chance.between(1, exchanges), series(chance), bid, sizes[0], held[0], offer, sizes[1], held[1]]
+}
+
+/// A record, one number of which may lie at the end of its range, outside, or beyond what can be stored.
+pub fn record_or_near(chance: &mut Chance, header: &[u32; Header::NUMBERS]) -> Record {
+    let exchanges = header[1].clamp(2, 8);
+    let kind = chance.between(1, 7);
+    let fields = usual_fields(chance, kind, &[header[0].min(8), exchanges]);
+    let milliseconds = chance.pick(&[0, 0, 1, 127, 128, 1_000, 20_001, 16_384, 2_097_152, 86_399_999]);
+    let mut record = Record { kind, milliseconds, fields };
+    match chance.below(12) {
+        0 => record.kind = chance.pick(&[0, 8, 9, 127, 128, 16_384, 268_435_455, 268_435_456, u32::MAX]),
+        1 => record.milliseconds = chance.pick(&[86_399_999, 86_400_000, 268_435_455, 268_435_456, u32::MAX]),
+        2..=6 => {
+            let field = chance.below(Record::field_count(kind));
+            record.fields[field] = near_an_end(chance, kind, field, header[0], header[1]);
+        }
+        _ => {}
+    }
+    record
+}
+
+/// What each field of each kind means: Exchange, Series, Price, Contracts, Three (0 to 2), Flag, Delay, One or two,
+/// Naming.
+const MEANT: [&[u8]; 8] = [b"", b"ESPCCPCC", b"ET", b"SPCTFED", b"OESOPC", b"NC", b"OESOPC", b"NEPC"];
+
+/// A value at or just beyond an end of the range of this field, or one that can't be stored.
+pub fn near_an_end(chance: &mut Chance, kind: u32, field: usize, home: u32, exchanges: u32) -> u32 {
+    if chance.one_in(6) {
+        return chance.pick(&HUGE);
+    }
+    let meant = MEANT.get(kind as usize).and_then(|fields| fields.get(field));
+    match meant {
+        Some(b'E') => chance.pick(&[0, 1, home, home, exchanges, exchanges.saturating_add(1)]),
+        Some(b'S') => chance.pick(&[0, 31, 32]),
+        Some(b'P') => chance.pick(&[0, 1, 1_000_000, 1_000_001]),
+        Some(b'C') => chance.pick(&[0, 1, 100_000, 100_001]),
+        Some(b'T') => chance.pick(&[0, 2, 3]),
+        Some(b'F') => chance.pick(&[0, 1, 2]),
+        Some(b'D') => chance.pick(&[0, 600_000, 600_001]),
+        Some(b'O') => chance.pick(&[0, 1, 2, 3]),
+        _ => naming(chance),
+    }
+}
+
+/// A time so far: usual, at the day's end, past it.
+pub fn time_so_far(chance: &mut Chance, milliseconds: u32) -> u32 {
+    let left = 86_399_999u32.saturating_sub(milliseconds);
+    match chance.below(8) {
+        0 => chance.pick(&[86_399_999, 86_400_000, u32::MAX]),
+        1 => left,
+        2 => left + 1,
+        3 => chance.pick(&HUGE),
+        _ => chance.pick(&[0, 1, 1_000, left / 2]),
+    }
+}

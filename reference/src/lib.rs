@@ -1,0 +1,24 @@
+//! The linkage desk's journal, verdicts and sheets in plain Rust, written from document 01 alone: a second opinion for
+//! the proved code, and its peer in speed.
+
+pub mod ask;
+pub mod claims;
+pub mod day;
+pub mod event;
+#[cfg(test)]
+mod examples;
+pub mod fuzz;
+pub mod header;
+pub mod journal;
+pub mod make;
+pub mod market;
+pub mod number;
+pub mod orders;
+pub mod record;
+pub mod refusal;
+pub mod sheet;
+#[cfg(test)]
+mod tests;
+pub mod time;
+pub mod totals;
+pub mod vectors;

@@ -1,0 +1,73 @@
+//! Small cases of numbers, refusals and questions, and that every made journal is a full one.
+
+use crate::ask::{self, Question};
+use crate::journal::Journal;
+use crate::number::Reader;
+use crate::refusal::No;
+use crate::{day, journal, make};
+
+fn read(bytes: &[u8]) -> Option<(u32, usize)> {
+    let mut reader = Reader::new(bytes);
+    let number = reader.number().ok()?;
+    Some((number, reader.place()))
+}
+
+#[test]
+fn numbers_of_each_length() {
+    assert_eq!(read(&[0x00]), Some((0, 1)));
+    assert_eq!(read(&[0x7F]), Some((127, 1)));
+    assert_eq!(read(&[0x80, 0x01]), Some((128, 2)));
+    assert_eq!(read(&[0xFF, 0x7F, 0x80]), Some((16_383, 2)));
+    assert_eq!(read(&[0x80, 0x80, 0x01]), Some((16_384, 3)));
+    assert_eq!(read(&[0xFF, 0xFF, 0xFF, 0x7F, 0x00]), Some((268_435_455, 4)));
+}
+
+#[test]
+fn numbers_that_cannot_be_read() {
+    let cut_off: [&[u8]; 4] = [&[], &[0x80], &[0xFF, 0xFF], &[0x80, 0x80, 0x80]];
+    let too_long: [&[u8]; 2] = [&[0x80, 0x80, 0x80, 0x80], &[0x80, 0x80, 0x80, 0x80, 0x01]];
+    let longer_than_needed: [&[u8]; 3] = [&[0x80, 0x00], &[0xFF, 0x80, 0x00], &[0x80, 0x80, 0x80, 0x00]];
+    for bytes in cut_off.iter().chain(&too_long).chain(&longer_than_needed) {
+        assert_eq!(read(bytes), None, "{bytes:?}");
+    }
+}
+
+#[test]
+fn an_empty_journal_and_one_that_is_too_long() {
+    assert_eq!(day::printed(&[]), b"refused 2 at 0\n");
+    assert_eq!(day::printed(&vec![0; Journal::MOST_BYTES + 1]), b"refused 1 at 0\n");
+}
+
+#[test]
+fn made_journals_are_full_and_good() {
+    for (kind, _) in make::KINDS {
+        let made = make::journal(kind).expect("a kind that is named");
+        assert_eq!(made.len(), Journal::MOST_BYTES);
+        assert_eq!(journal::accept(&made), Ok(()), "{kind}");
+    }
+}
+
+#[test]
+fn lent_output_that_is_too_short_keeps_its_bytes() {
+    let made = make::journal("mixed").expect("a kind that is named");
+    let short = Question { op: ask::op::REWRITE, cap: made.len() as u32 - 1, a: made, b: vec![] };
+    let answer = short.answer();
+    assert_eq!((answer.no, answer.place, answer.kept), (No::OutputTooShort as u32, 0, true));
+    assert!(answer.bytes.is_empty());
+}
+
+#[test]
+fn a_run_ends_at_a_question_that_is_too_large_or_cut_off() {
+    let good = Question { op: ask::op::JOURNAL, a: vec![1], ..Question::default() };
+    for damage in [|bytes: &mut Vec<u8>| bytes[3] = 0xFF, |bytes: &mut Vec<u8>| bytes.truncate(13)] {
+        let (mut first, mut second) = (Vec::new(), Vec::new());
+        good.put(&mut first);
+        good.put(&mut second);
+        damage(&mut second);
+        let (input, mut output) = ([first, second].concat(), Vec::new());
+        ask::run(&mut input.as_slice(), &mut output).expect("nothing fails in memory");
+        let mut right = Vec::new();
+        good.answer().put(&mut right);
+        assert_eq!(output, right);
+    }
+}

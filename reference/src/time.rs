@@ -1,0 +1,16 @@
+//! "Time: 0 to 86,399,999 ms after midnight", and the spans that the rules count.
+
+pub struct Time;
+
+impl Time {
+    pub const LAST: u32 = 86_399_999;
+    pub const EARLIEST_CLOSE: u32 = 300_000;
+    pub const LONGEST_DELAY: u32 = 600_000;
+    /// "More than 20,000 ms before the trade."
+    pub const ANSWER_AWAITED: u32 = 20_000;
+    /// "Later than the report plus 180,000 ms ..."
+    pub const TO_CLAIM: u32 = 180_000;
+    /// "... or plus 60,000 if the report is at or after close less 300,000."
+    pub const TO_CLAIM_NEAR_CLOSE: u32 = 60_000;
+    pub const NEAR_CLOSE: u32 = 300_000;
+}
