@@ -110,14 +110,7 @@ pub fn write_record(row: &[u32; 30], n: usize, out: &mut [u8]) -> u64 {
     if n != Coded::RECORD {
         return Coded::WRONG_LENGTH;
     }
-    let w = alone::write_record(
-        out,
-        head_of(row),
-        row[19],
-        row[20],
-        row[21],
-        fields_of(row),
-    );
+    let w = alone::write_record(out, head_of(row), row[19], row[20], row[21], fields_of(row));
     written(w)
 }
 

@@ -116,11 +116,12 @@ module _ (cl : List ℕ) (n : ℕ) (slots counts : List ℕ) where
             part-of : (x k : ℕ) (l : List Line) → length (ofTrade x (take k l)) ≤ length (ofTrade x l)
             part-of x k l =
                 unfold ofTrade in
-                omega
-                (arith,
-                ap (λ r. length (keep (λ (y : Line). y .trade == x) r)) (take-append-drop k l),
-                ap length (keep-append (λ (y : Line). y .trade == x) (take k l) (drop k l)),
-                length-append (keep (λ (y : Line). y .trade == x) (take k l)) (keep (λ (y : Line). y .trade == x) (drop k l)))
+                omega (
+                  arith,
+                  ap (λ r. length (keep (λ (y : Line). y .trade == x) r)) (take-append-drop k l),
+                  ap length (keep-append (λ (y : Line). y .trade == x) (take k l) (drop k l)),
+                  length-append (keep (λ (y : Line). y .trade == x) (take k l)) (keep (λ (y : Line). y .trade == x) (drop k l)),
+                )
 
 pub ruleset sort-laws = (sorting-none, sorting-all, sorting-more)
 

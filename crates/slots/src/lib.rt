@@ -58,18 +58,20 @@ pub fn sort_lines(cl: &[u32; 4096], n: usize, slots: &mut [u32; 1024], counts: &
 {
     let mut i: usize = 0;
     while i < n {
-        note_line(
-            slots,
-            counts,
-            rows::index(cl[i * Line::WORDS]),
-            number(i),
-        );
+        note_line(slots, counts, rows::index(cl[i * Line::WORDS]), number(i));
         i += 1;
     }
 }
 
 // One word of each of the k lines of trade m, in their order, out of a table with a row for each line.
-pub fn gather(t: &[u32; 4096], word: usize, slots: &[u32; 1024], m: usize, k: usize, out: &mut [u32; 8])
+pub fn gather(
+    t: &[u32; 4096],
+    word: usize,
+    slots: &[u32; 1024],
+    m: usize,
+    k: usize,
+    out: &mut [u32; 8],
+)
     requires { ⌜ (word < 8) × (m < 128) × (k ≤ 8) ⌝ }
     ensures { λ _. ⌜ Gathers (now (t .entry)) word (now (slots .entry)) m k (now (out .entry)) (now (out .exit)) ⌝ }
 {
