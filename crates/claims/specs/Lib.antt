@@ -1,2 +1,3 @@
 pub mod Reasons
 pub mod Lines
+pub mod Books
