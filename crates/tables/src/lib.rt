@@ -25,14 +25,14 @@ pub fn keep(
     exchanges: usize,
     close: u32,
     sizes: &[u32; 16],
-    block: bool,
     r: Rec,
 ) -> Numbers
     requires { ⌜ Headed exchanges home ⌝ }
     requires { ⌜ Placed r (now cl) exchanges c ⌝ }
     requires { ⌜ Orderly (now t) (now ch) (now cl) c ⌝ }
-    ensures { λ d. ⌜ TablesStep r home exchanges close (now (sizes .entry)) block (now (q .entry)) (now (st .entry)) (now (t .entry)) (now (tr .entry)) (now (sn .entry)) (now (cl .entry)) c (now (q .exit)) (now (st .exit)) (now (t .exit)) (now (ch .exit)) (now (tr .exit)) (now (sn .exit)) (now (cl .exit)) d ⌝ }
+    ensures { λ d. ⌜ TablesStep r home exchanges close (now (sizes .entry)) (now (q .entry)) (now (st .entry)) (now (t .entry)) (now (tr .entry)) (now (sn .entry)) (now (cl .entry)) c (now (q .exit)) (now (st .exit)) (now (t .exit)) (now (ch .exit)) (now (tr .exit)) (now (sn .exit)) (now (cl .exit)) d ⌝ }
 {
+    let block = through::found_block(q, exchanges, r);
     let lines = claims::keep_claim(cl, tr, sn, c.lines, c.trades, home, exchanges, close, r);
     let trades = trades::keep_trade(
         tr,
