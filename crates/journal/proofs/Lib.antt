@@ -2,5 +2,6 @@ pub mod Inside
 pub mod Reaching
 pub mod Walking
 pub mod Looping
+pub mod Beginning
 pub mod Entries
 pub mod Settled
