@@ -2,3 +2,4 @@ pub mod Groups
 pub mod Reading
 pub mod Writing
 pub mod RoundTrip
+pub mod Settled

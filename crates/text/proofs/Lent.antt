@@ -166,7 +166,7 @@ module _ (s bytes : List ℕ) where
 
 pub ruleset writes-laws = (writes-short, writes-room, writes-all)
 
-same-answer-same-written : (a b : Written) → asAnswer a ≡ asAnswer b → a ≡ b
+pub same-answer-same-written : (a b : Written) → asAnswer a ≡ asAnswer b → a ≡ b
 same-answer-same-written (To m) (To n) e = cc
 same-answer-same-written (Refused m) (Refused n) e = cc
 same-answer-same-written (To m) (Refused n) e = cc
