@@ -1,1 +1,2 @@
 pub mod Surveying
+pub mod Beginning
