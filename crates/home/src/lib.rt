@@ -16,21 +16,21 @@ pub struct HomeQuote {
 // Q: the exchange named, and the side of home's quote.
 pub enum Against {
     Clear,
-    Locked(usize, u32),
-    Crossed(usize, u32),
+    Locked(u32, u32),
+    Crossed(u32, u32),
 }
 
 impl Against {
-    pub const CLEAR: usize = 0;
+    pub const CLEAR: u32 = 0;
 
-    pub const LOCKED: usize = 1;
+    pub const LOCKED: u32 = 1;
 
-    pub const CROSSED: usize = 2;
+    pub const CROSSED: u32 = 2;
 }
 
 // Where a search for a side ended: an exchange and the side, or nowhere.
 pub enum Found {
-    At(usize, u32),
+    At(u32, u32),
     Nowhere,
 }
 
@@ -53,7 +53,7 @@ pub fn quote_of(r: Rec) -> HomeQuote
 }
 
 // "Crossed if its bid is above an away offer or its offer below an away bid; else locked if equal."
-fn side_against(verdict: usize, bid: u32, offer: u32, their_bid: u32, their_offer: u32) -> u32
+fn side_against(verdict: u32, bid: u32, offer: u32, their_bid: u32, their_offer: u32) -> u32
     ensures { λ r. ⌜ r ≡ sideOf verdict bid offer «their_bid» «their_offer» ⌝ }
 {
     if verdict == Against::CROSSED {
@@ -75,7 +75,7 @@ fn side_against(verdict: usize, bid: u32, offer: u32, their_bid: u32, their_offe
 }
 
 // "the lowest exchange of that kind is named"
-fn lowest_named(q: &[u32; 2048], n: usize, home: usize, verdict: usize, v: HomeQuote) -> Found
+fn lowest_named(q: &[u32; 2048], n: usize, home: usize, verdict: u32, v: HomeQuote) -> Found
     requires { ⌜ (n ≤ 8) × (v .series < 32) ⌝ }
     ensures { λ r. ⌜ FoundIs (now (q .entry)) n home verdict v r ⌝ }
 {
@@ -95,7 +95,8 @@ fn lowest_named(q: &[u32; 2048], n: usize, home: usize, verdict: usize, v: HomeQ
             q[k + Quote::OFFER],
         );
         if side != Side::NEITHER {
-            return Found::At(x, side);
+            let named = x as u32;
+            return Found::At(named, side);
         }
         y += 1;
     }

@@ -4,6 +4,8 @@ use mathlib.Core.Bool.{Bool, true, false, not}
 use mathlib.Core.List.{List}
 use Prim.Native.Nat.{ℕ, _<_, _≤_}
 use native.Mathlib.Omega.{arith}
+use mir.Val.{Fits}
+use mir.Syntax.{w32}
 use lib.Dec.{eqb}
 use lib.ListN.{length}
 use borrow.Author.Tests.{eq-eqb, ne-eqb, not-true, not-false}
@@ -40,14 +42,14 @@ module _ (v : Against) where
   unfolding judgedAs againstAs
   says-clear e = record { so = λ n. rw e }
 
-  module _ (x side y : ℕ) where
-    pub says-locked : v ≡ Locked x side → (y ≡ side) × (y < 4294967296) → QuoteSays v (Q 1 x y)
+  module _ (x side : ℕ) where
+    pub says-locked : v ≡ Locked x side → QuoteSays v (Q 1 x side)
     unfolding judgedAs againstAs
-    says-locked e z = record { so = λ n. rw (e, z .0) }
+    says-locked e = record { so = λ n. rw e }
 
-    pub says-crossed : v ≡ Crossed x side → (y ≡ side) × (y < 4294967296) → QuoteSays v (Q 2 x y)
+    pub says-crossed : v ≡ Crossed x side → QuoteSays v (Q 2 x side)
     unfolding judgedAs againstAs
-    says-crossed e z = record { so = λ n. rw (e, z .0) }
+    says-crossed e = record { so = λ n. rw e }
 
 module _ (v : Sent) (number : ℕ) where
   pub says-fine : v ≡ Fine → SentSays v number (S 0 number 0)
@@ -62,18 +64,18 @@ module _ (v : Sent) (number : ℕ) where
   unfolding judgedAs sentAs
   says-not-best e = record { so = λ n. rw e }
 
-module _ (v : Duty) (x y : ℕ) where
-  pub says-none : v ≡ NoDuty x → (y ≡ x) × (y < 4294967296) → DutySays v (R 0 0 y)
+module _ (v : Duty) (x : ℕ) where
+  pub says-none : v ≡ NoDuty x → DutySays v (R 0 0 x)
   unfolding judgedAs dutyAs
-  says-none e z = record { so = λ n. rw (e, z .0) }
+  says-none e = record { so = λ n. rw e }
 
-  pub says-whole : v ≡ Whole x → (y ≡ x) × (y < 4294967296) → DutySays v (R 1 y 0)
+  pub says-whole : v ≡ Whole x → DutySays v (R 1 x 0)
   unfolding judgedAs dutyAs
-  says-whole e z = record { so = λ n. rw (e, z .0) }
+  says-whole e = record { so = λ n. rw e }
 
-  pub says-least : v ≡ AtLeast x → (y ≡ x) × (y < 4294967296) → DutySays v (R 2 y 0)
+  pub says-least : v ≡ AtLeast x → DutySays v (R 2 x 0)
   unfolding judgedAs dutyAs
-  says-least e z = record { so = λ n. rw (e, z .0) }
+  says-least e = record { so = λ n. rw e }
 
 pub bit-one : (b : Bool) → b ≡ true → 1 ≡ bitOf b
 unfolding bitOf
@@ -183,6 +185,9 @@ module _ (n home : ℕ) (r : Rec) (ok : RecOk n home r) where
   pub quote-series : (v : HomeQuote) → QuoteIs r v → r .kind ≡ quoteKind → v .series < 32
   quote-series v is k = let g = ok .quote k in omega (arith, g .series, is .series)
 
+  pub count-fits : (q : List ℕ) (t : Trade) (c : ℕ) → CountIs q n home t c → Headed n home → Fits w32 c
+  count-fits q t c is hd = record { fits = omega (arith, is .few, hd .few) }
+
   pub trade-series : (t : Trade) → TradeIs r t → r .kind ≡ tradeKind → t .series < 32
   trade-series t is k = series-low n r t (ok .trade k) is
 
@@ -209,4 +214,4 @@ module _ (n home : ℕ) (r : Rec) (ok : RecOk n home r) where
     pub received-series : r .kind ≡ receivedKind → o .series < 32
     received-series k = order-series (ok .received k)
 
-pub ruleset judge-laws = (says-clear, says-locked, says-crossed, says-fine, says-not-shown, says-not-best, says-none, says-whole, says-least, bit-one, bit-none, judged-away, judged-home, judged-sent, judged-received, judged-trade, judged-other, quote-series, trade-series, sent-within, received-from, received-to, received-series)
+pub ruleset judge-laws = (says-clear, says-locked, says-crossed, says-fine, says-not-shown, says-not-best, says-none, says-whole, says-least, bit-one, bit-none, judged-away, judged-home, judged-sent, judged-received, judged-trade, judged-other, quote-series, count-fits, trade-series, sent-within, received-from, received-to, received-series)

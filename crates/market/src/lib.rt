@@ -1,5 +1,7 @@
 // What is printed of a record: the verdict on a home quote, an order or a trade, as a letter and three numbers.
 ghost use mathlib.Core.Path.{_≡_};
+ghost use Prim.Native.Nat.{_≤_};
+ghost use Rattle.rules.specs.Limits.{mostTrades, mostSentOrders};
 ghost use Rattle.rows.specs.Rows.{RecOk};
 ghost use Rattle.orders.specs.Orders.{Headed};
 ghost use Rattle.market.specs.Judged.{bitOf, QuoteSays, SentSays, DutySays, JudgedIs};
@@ -14,10 +16,10 @@ use through::Trade;
 // What is printed of a record: its letter, and a, b, c.
 pub enum Judged {
     Nothing,
-    Q(usize, usize, usize),
-    S(usize, usize, usize),
-    R(usize, usize, usize),
-    T(usize, usize, usize),
+    Q(u32, u32, u32),
+    S(u32, u32, u32),
+    R(u32, u32, u32),
+    T(u32, u32, u32),
 }
 
 fn quote_says(v: Against) -> Judged
@@ -25,12 +27,12 @@ fn quote_says(v: Against) -> Judged
 {
     match v {
         Against::Clear => Judged::Q(Against::CLEAR, 0, 0),
-        Against::Locked(x, side) => Judged::Q(Against::LOCKED, x, rows::index(side)),
-        Against::Crossed(x, side) => Judged::Q(Against::CROSSED, x, rows::index(side)),
+        Against::Locked(x, side) => Judged::Q(Against::LOCKED, x, side),
+        Against::Crossed(x, side) => Judged::Q(Against::CROSSED, x, side),
     }
 }
 
-fn sent_says(v: Sent, number: usize) -> Judged
+fn sent_says(v: Sent, number: u32) -> Judged
     ensures { λ r. ⌜ SentSays v number r ⌝ }
 {
     match v {
@@ -44,13 +46,13 @@ fn duty_says(v: Duty) -> Judged
     ensures { λ r. ⌜ DutySays v r ⌝ }
 {
     match v {
-        Duty::NoDuty(reason) => Judged::R(Duty::NONE, 0, rows::index(reason)),
-        Duty::Whole(contracts) => Judged::R(Duty::WHOLE, rows::index(contracts), 0),
-        Duty::AtLeast(contracts) => Judged::R(Duty::AT_LEAST, rows::index(contracts), 0),
+        Duty::NoDuty(reason) => Judged::R(Duty::NONE, 0, reason),
+        Duty::Whole(contracts) => Judged::R(Duty::WHOLE, contracts, 0),
+        Duty::AtLeast(contracts) => Judged::R(Duty::AT_LEAST, contracts, 0),
     }
 }
 
-fn bit(b: bool) -> usize
+fn bit(b: bool) -> u32
     ensures { λ r. ⌜ r ≡ bitOf b ⌝ }
 {
     if b { 1 } else { 0 }
@@ -69,6 +71,7 @@ pub fn judge(
     r: Rec,
 ) -> Judged
     requires { ⌜ Headed n home × RecOk n home r ⌝ }
+    requires { ⌜ (sent ≤ mostSentOrders) × (trades ≤ mostTrades) ⌝ }
     ensures { λ a. ⌜ JudgedIs (now (q .entry)) (now (st .entry)) n home (now (sizes .entry)) sent trades r a ⌝ }
 {
     if r.kind == Quote::KIND {
@@ -78,15 +81,17 @@ pub fn judge(
         return quote_says(home::home_quote(q, n, home, home::quote_of(r)));
     }
     if r.kind == Order::SENT {
-        return sent_says(orders::sent_order(q, n, orders::order_of(r)), sent);
+        let number = sent as u32;
+        return sent_says(orders::sent_order(q, n, orders::order_of(r)), number);
     }
     if r.kind == Order::RECEIVED {
         return duty_says(orders::received_order(q, st, n, home, sizes, orders::order_of(r)));
     }
     if r.kind == Trade::KIND {
         let t = through::trade_of(r);
-        let count = through::count_through(q, n, home, t);
-        return Judged::T(trades, count, bit(through::is_block(q, n, t)));
+        let number = trades as u32;
+        let count = through::count_through(q, n, home, t) as u32;
+        return Judged::T(number, count, bit(through::is_block(q, n, t)));
     }
     Judged::Nothing
 }

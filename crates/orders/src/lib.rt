@@ -37,11 +37,11 @@ pub enum Sent {
 }
 
 impl Sent {
-    pub const FINE: usize = 0;
+    pub const FINE: u32 = 0;
 
-    pub const NOT_SHOWN: usize = 1;
+    pub const NOT_SHOWN: u32 = 1;
 
-    pub const NOT_BEST: usize = 2;
+    pub const NOT_BEST: u32 = 2;
 }
 
 // R: none, and the reason; the whole order; at least so many contracts.
@@ -52,11 +52,11 @@ pub enum Duty {
 }
 
 impl Duty {
-    pub const NONE: usize = 0;
+    pub const NONE: u32 = 0;
 
-    pub const WHOLE: usize = 1;
+    pub const WHOLE: u32 = 1;
 
-    pub const AT_LEAST: usize = 2;
+    pub const AT_LEAST: u32 = 2;
 
     pub const ABSENT_OR_WORSE: u32 = 1;
 

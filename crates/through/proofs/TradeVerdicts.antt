@@ -89,6 +89,7 @@ module _ (q : List ℕ) (n home : ℕ) (t : Trade) where
         record {
           so = λ h past k en eh same held.
               let z : h .exchanges ≡ y = omega (arith, a .few) in simp (z, eh, same .series, same .price) (a .so past held);
+          few = omega (arith, a .small, a .few);
         }
 
     module _ (l : y < n) (pre : (n ≤ 8) × (t .series < 32)) (k : ℕ) (p : PlaceIs y (t .series) k)

@@ -2,7 +2,7 @@
 use mathlib.Core.Path.{_≡_}
 use mathlib.Core.Bool.{Bool}
 use mathlib.Core.List.{List, []}
-use Prim.Native.Nat.{ℕ}
+use Prim.Native.Nat.{ℕ, _≤_}
 use lib.ListN.{length}
 use Rattle.rules.specs.Basics.{if_then_else_, _==_, within, _when_, _¦_, firstOf}
 use Rattle.rules.specs.Header.{Header}
@@ -46,6 +46,7 @@ formOf form = within 1 2 form
 pub record CountIs (q : List ℕ) (n home : ℕ) (t : Trade) (r : ℕ) : Type 0 where
   pub so : (h : Header) (past : History) (k : paper.Trade) → h .exchanges ≡ n → h .home ≡ home → SameTrade t k → Quoted past q
       → r ≡ length (throughs h past k)
+  pub few : r ≤ n
 
 pub record BlockIs (q : List ℕ) (n : ℕ) (t : Trade) (r : Bool) : Type 0 where
   pub so : (h : Header) (past : History) (k : paper.Trade) → h .exchanges ≡ n → SameTrade t k → Quoted past q → r ≡ isBlock h past k

@@ -50,6 +50,9 @@ element-copy-out-side-against-2 c = search (home-laws, needs)
 side-against-requires : tie.Need-side-against-requires Inv-loop μ-loop
 side-against-requires c κs = search (home-laws, needs)
 
+cast-named : tie.Need-cast-named Inv-loop μ-loop
+cast-named c = search (home-laws, needs)
+
 returns : tie.Need-returns Inv-loop μ-loop
 returns c = search (home-laws, needs)
 
@@ -84,6 +87,7 @@ lowest-named-spec =
     mul-side-against-2
     element-copy-out-side-against-2
     side-against-requires
+    cast-named
     returns
     add-y-2
     loop-less-2

@@ -7,20 +7,11 @@ use Rattle.market.proofs.duty_says.Tie as tie
 enum-known-v : tie.Need-enum-known-v
 enum-known-v c = search (judge-laws, needs)
 
-index-requires : tie.Need-index-requires
-index-requires c κs = search (judge-laws, needs)
-
 enum-known-v-2 : tie.Need-enum-known-v-2
 enum-known-v-2 c = search (judge-laws, needs)
 
-index-requires-2 : tie.Need-index-requires-2
-index-requires-2 c κs = search (judge-laws, needs)
-
 enum-known-v-3 : tie.Need-enum-known-v-3
 enum-known-v-3 c = search (judge-laws, needs)
-
-index-requires-3 : tie.Need-index-requires-3
-index-requires-3 c κs = search (judge-laws, needs)
 
 returns : tie.Need-returns
 returns c = search (judge-laws, needs)
@@ -33,14 +24,4 @@ returns-3 c = search (judge-laws, needs)
 
 pub duty-says-spec : {M : Type 1} → statement M
 duty-says-spec =
-    tie.close
-    (tie.spec
-    enum-known-v
-    index-requires
-    enum-known-v-2
-    index-requires-2
-    enum-known-v-3
-    index-requires-3
-    returns
-    returns-2
-    returns-3)
+    tie.close (tie.spec enum-known-v enum-known-v-2 enum-known-v-3 returns returns-2 returns-3)

@@ -22,6 +22,9 @@ quote-says-requires c κs = search (judge-laws, needs)
 returns-2 : tie.Need-returns-2
 returns-2 c = search (judge-laws, needs)
 
+cast-number : tie.Need-cast-number
+cast-number c = search (judge-laws, needs)
+
 order-of-requires : tie.Need-order-of-requires
 order-of-requires c κs = search (judge-laws, needs)
 
@@ -49,8 +52,14 @@ returns-4 c = search (judge-laws, needs)
 trade-of-requires : tie.Need-trade-of-requires
 trade-of-requires c κs = search (judge-laws, needs)
 
+cast-number-2 : tie.Need-cast-number-2
+cast-number-2 c = search (judge-laws, needs)
+
 count-through-requires : tie.Need-count-through-requires
 count-through-requires c κs = search (judge-laws, needs)
+
+cast-count : tie.Need-cast-count
+cast-count c = search (judge-laws, needs)
 
 is-block-requires : tie.Need-is-block-requires
 is-block-requires c κs = search (judge-laws, needs)
@@ -74,6 +83,7 @@ judge-spec =
     home-quote-requires
     quote-says-requires
     returns-2
+    cast-number
     order-of-requires
     sent-order-requires
     sent-says-requires
@@ -83,7 +93,9 @@ judge-spec =
     duty-says-requires
     returns-4
     trade-of-requires
+    cast-number-2
     count-through-requires
+    cast-count
     is-block-requires
     bit-requires
     returns-5

@@ -10,14 +10,8 @@ enum-told c = search (judge-laws, needs)
 enum-known-v : tie.Need-enum-known-v
 enum-known-v c = search (judge-laws, needs)
 
-index-requires : tie.Need-index-requires
-index-requires c κs = search (judge-laws, needs)
-
 enum-known-v-2 : tie.Need-enum-known-v-2
 enum-known-v-2 c = search (judge-laws, needs)
-
-index-requires-2 : tie.Need-index-requires-2
-index-requires-2 c κs = search (judge-laws, needs)
 
 returns : tie.Need-returns
 returns c = search (judge-laws, needs)
@@ -30,13 +24,4 @@ returns-3 c = search (judge-laws, needs)
 
 pub quote-says-spec : {M : Type 1} → statement M
 quote-says-spec =
-    tie.close
-    (tie.spec
-    enum-told
-    enum-known-v
-    index-requires
-    enum-known-v-2
-    index-requires-2
-    returns
-    returns-2
-    returns-3)
+    tie.close (tie.spec enum-told enum-known-v enum-known-v-2 returns returns-2 returns-3)
