@@ -1,0 +1,129 @@
+-- A record of any kind: its row, where it is judged or a Satisfaction Order, is its line of the printed day.
+use mathlib.Core.Path.{_≡_, refl, sym, ap, _∙_}
+use mathlib.Core.Bool.{false}
+use mathlib.Core.List.{List, [], _∷_, _++_, flatMap, append-nil}
+use Prim.Native.Nat.{ℕ, _+_, _*_, _%_, _<_}
+use Prim.Native.String.{String}
+use native.Mathlib.Omega.{arith}
+use lib.ListN.{length}
+use borrow.Author.Tests.{ne-eqb}
+use Rattle.rules.specs.Basics.{_==_}
+use Rattle.rules.specs.Header.{Header}
+use Rattle.rules.specs.Record.{Event, isSatisfaction, satisfactionKind}
+use Rattle.rules.specs.Journal.{History, count}
+use Rattle.rules.specs.OwnSheet.{SheetLine}
+use Rattle.rules.specs.GoodSheet.{saidAt}
+use Rattle.rules.specs.Verdicts.{verdict}
+use Rattle.rules.specs.PrintedDay.{ascii, printedLine, oneLine, sheetVerdict, judged, settled, listed}
+use Rattle.rows.specs.declared.Rec.{Rec}
+use Rattle.market.specs.Judged.{judgedAs, JudgedIs}
+use Rattle.market.specs.declared.Judged.{Judged}
+use Rattle.market.specs.declared.Judged.the-variants.{Nothing, Q, S, R, T}
+use Rattle.list.specs.Listing.{orderLetter, textFrom, Listing, RowPut, JudgedPut, Noted}
+use Rattle.list.proofs.Rows.{flat-append, text-none, put-verdict, put-order}
+
+-- the list of no records
+pub listing-none : (h : Header) (list : List ℕ) → Listing h [] list 0
+unfolding listed flatMap
+listing-none h list = record { so = λ own. text-none own list; few = omega arith }
+
+-- ---- a verdict
+
+module _ (list : List ℕ) (n event : ℕ) (v : Judged) where
+  pub nothing-put : v ≡ Nothing → JudgedPut list n event v list n
+  unfolding judgedAs flatMap
+  nothing-put e = record { so = λ own. rw e (sym (append-nil (textFrom own list n))); long = refl; more = omega arith }
+
+  module _ (a b c : ℕ) (list2 : List ℕ) (n2 : ℕ) where
+    letter-put : (letter : String) (what : ℕ) → judgedAs event v ≡ oneLine event letter (verdict a b c) → ascii letter ≡ what ∷ [] → what % 256 ≡ what
+        → (what == orderLetter) ≡ false → RowPut list n event what a b c list2 n2 → JudgedPut list n event v list2 n2
+    letter-put letter what e is byte other p =
+        record {
+          so = λ own. rw e (put-verdict list n event what a b c list2 n2 p own letter is byte other);
+          long = p .long;
+          more = omega (arith, p .next);
+        }
+
+    pub quote-put : v ≡ Q a b c → RowPut list n event 81 a b c list2 n2 → JudgedPut list n event v list2 n2
+    unfolding judgedAs ascii
+    quote-put e p = letter-put "Q" 81 (rw e) refl refl refl p
+
+    pub sent-put : v ≡ S a b c → RowPut list n event 83 a b c list2 n2 → JudgedPut list n event v list2 n2
+    unfolding judgedAs ascii
+    sent-put e p = letter-put "S" 83 (rw e) refl refl refl p
+
+    pub received-put : v ≡ R a b c → RowPut list n event 82 a b c list2 n2 → JudgedPut list n event v list2 n2
+    unfolding judgedAs ascii
+    received-put e p = letter-put "R" 82 (rw e) refl refl refl p
+
+    pub trade-put : v ≡ T a b c → RowPut list n event 84 a b c list2 n2 → JudgedPut list n event v list2 n2
+    unfolding judgedAs ascii
+    trade-put e p = letter-put "T" 84 (rw e) refl refl refl p
+
+pub put-length : (list : List ℕ) (n event what a b c : ℕ) (list2 : List ℕ) (n2 : ℕ) → RowPut list n event what a b c list2 n2 → length list2 ≡ length list
+put-length list n event what a b c list2 n2 p = p .long
+
+pub ruleset judged-laws = (nothing-put, quote-put, sent-put, received-put, trade-put, put-length)
+
+-- ---- what the day prints of one event more
+
+module _ (h : Header) (own : List SheetLine) (past : History) (e : Event) where
+  pub listed-order : e .kind ≡ satisfactionKind
+      → flatMap printedLine (listed h own (e ∷ past))
+      ≡ flatMap printedLine (listed h own past) ++ flatMap printedLine (oneLine (length past) "F" (sheetVerdict (saidAt own (count isSatisfaction past))))
+  unfolding listed judged settled
+  listed-order k = flat-append printedLine (listed h own past) _ ∙ rw k
+
+  pub listed-other : (e .kind ≡ satisfactionKind → ⊥)
+      → flatMap printedLine (listed h own (e ∷ past)) ≡ flatMap printedLine (listed h own past) ++ flatMap printedLine (judged h past e)
+  unfolding listed settled
+  listed-other ne =
+      flat-append printedLine (listed h own past) _ ∙ rw (ne-eqb (e .kind) satisfactionKind ne, append-nil (judged h past e))
+
+-- ---- a record of any kind
+
+module _ (list : List ℕ) (n : ℕ) (q st : List ℕ) (exchanges home : ℕ) (sizes : List ℕ) (sent trades lines event : ℕ) (r : Rec) where
+  pub no-room : length list < (n + 1) * 5 → Noted list n q st exchanges home sizes sent trades lines event r list n
+  no-room short =
+      record {
+        so = λ h e past hd reads held hs es et el ee ln ll listing. absurd (omega arith);
+        long = refl;
+        more = omega arith;
+      }
+
+  module _ (list2 : List ℕ) (n2 : ℕ) where
+    pub order-noted : r .kind ≡ satisfactionKind → RowPut list n event orderLetter lines 0 0 list2 n2
+        → Noted list n q st exchanges home sizes sent trades lines event r list2 n2
+    order-noted k p =
+        record {
+          so = λ h e past hd reads held hs es et el ee ln ll listing.
+              record {
+                so = λ own.
+                    put-order list n event orderLetter lines 0 0 list2 n2 p own refl
+                    ∙ rw (listing .so own, el, ee) (sym (listed-order h own past e (reads .kind ∙ k)));
+                few = omega (arith, listing .few, p .next);
+              };
+          long = p .long;
+          more = omega (arith, p .next);
+        }
+
+    pub verdict-noted : (r .kind ≡ satisfactionKind → ⊥) → (v : Judged) → JudgedIs q st exchanges home sizes sent trades r v
+        → JudgedPut list n event v list2 n2 → Noted list n q st exchanges home sizes sent trades lines event r list2 n2
+    verdict-noted ne v is p =
+        record {
+          so = λ h e past hd reads held hs es et el ee ln ll listing.
+              record {
+                so = λ own.
+                    p .so own
+                    ∙ rw (listing .so own, ee, is .so h e past hd reads held hs es et)
+                    (sym (listed-other h own past e (λ z. ne (sym (reads .kind) ∙ z))));
+                few = omega (arith, listing .few, p .more);
+              };
+          long = p .long;
+          more = p .more;
+        }
+
+pub judged-length : (list : List ℕ) (n event : ℕ) (v : Judged) (list2 : List ℕ) (n2 : ℕ) → JudgedPut list n event v list2 n2 → length list2 ≡ length list
+judged-length list n event v list2 n2 p = p .long
+
+pub ruleset note-laws = (no-room, order-noted, verdict-noted, put-length, judged-length)

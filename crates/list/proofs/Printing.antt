@@ -1,0 +1,209 @@
+-- The list printed: the rows with our own sheet's lines as the tables have them, their widths added up, one written after another.
+use mathlib.Core.Path.{_≡_, refl, sym, ap, _∙_, subst}
+use mathlib.Core.List.{List, [], _∷_, _++_, map, map-append, map-map, flatMap}
+use Prim.Native.Nat.{ℕ, zero, suc, _+_, _-_, _*_, _<_, _≤_}
+use native.Mathlib.Omega.{arith}
+use mir.Val.{Fits}
+use mir.Syntax.{w64}
+use lib.Dec.{eqb}
+use lib.ListN.{getD, length, length-append, List·getD-append, List·getD-eq-default}
+use lib.Seq.{getD-at}
+use borrow.Author.Tests.{eqb-true, eqb-false, eq-eqb, ne-eqb}
+use Rattle.rules.specs.Basics.{below}
+use Rattle.rules.specs.Journal.{Journal}
+use Rattle.rules.specs.Due.{Line, lines}
+use Rattle.rules.specs.GoodSheet as sheet
+use Rattle.rules.specs.OwnSheet.{SheetLine, ownFill, ownLine, ownLines}
+use Rattle.rules.specs.PrintedDay.{printedLine, listed, firstLine, dayText}
+use Rattle.rules.proofs.Tests.{byTest}
+use Rattle.text.specs.Lent.{Wrote, Takes, Writes}
+use Rattle.text.specs.declared.Written.{Written}
+use Rattle.text.specs.declared.Written.the-variants.{To, Refused}
+use Rattle.text.proofs.Lent.{wrote-length, wrote-none, wrote-then, writes-short, writes-all}
+use Rattle.claims.specs.Lines.{lineAt, linesFrom}
+use Rattle.claims.specs.Books.{Books, OwnFilled}
+use Rattle.list.specs.Listing.{mostRows, mostText, letterAt, wordAt, orderLetter, rowText, textFrom, Listing, tableLine, sheetFrom, shownText, OrderShown, RowShown, Prints}
+use Rattle.list.specs.declared.Shown.{Shown}
+use Rattle.list.proofs.Rows.{text-none, text-more, text-longer}
+
+-- ---- something for each number below n
+
+map-below : {A : Type 0} (f : ℕ → A) (n : ℕ) → map f (below (suc n)) ≡ map f (below n) ++ (f n ∷ [])
+unfolding below
+map-below f n = map-append f (below n) (n ∷ [])
+
+mapped-length : {A : Type 0} (f : ℕ → A) (n : ℕ) → length (map f (below n)) ≡ n
+mapped-length f zero = unfold below in refl
+mapped-length f (suc n) = ap length (map-below f n) ∙ rw (length-append, mapped-length f n) (omega arith)
+
+mapped-same : {A : Type 0} (f g : ℕ → A) (n : ℕ) → ((i : ℕ) → i < n → f i ≡ g i) → map f (below n) ≡ map g (below n)
+mapped-same f g zero h = unfold below in refl
+mapped-same f g (suc n) h =
+    map-below f n ∙ rw (h n (omega arith), mapped-same f g n (λ i l. h i (omega arith))) (sym (map-below g n))
+
+mapped-at : {A : Type 0} (f : ℕ → A) (d : A) (n i : ℕ) → i < n → getD (map f (below n)) i d ≡ f i
+mapped-at f d zero i h = absurd (omega arith)
+mapped-at f d (suc n) i h =
+    ap (λ l. getD l i d) (map-below f n)
+    ∙ byTest (eqb i n)
+    (λ t. let e = eqb-true i n t in getD-at (map f (below n)) (f n) [] d i (mapped-length f n ∙ sym e) ∙ ap f (sym e))
+    (λ t.
+    let l : i < n = omega (arith, eqb-false i n t) in
+    List·getD-append (map f (below n)) (f n ∷ []) d i (omega (arith, mapped-length f n)) ∙ mapped-at f d n i l)
+
+mapped-beyond : {A : Type 0} (f : ℕ → A) (d : A) (n i : ℕ) → n ≤ i → getD (map f (below n)) i d ≡ d
+mapped-beyond f d n i h = List·getD-eq-default (map f (below n)) d (omega (arith, mapped-length f n))
+
+-- ---- a row as it is printed
+
+module _ (cl fills : List ℕ) (lines event line : ℕ) where
+  pub order-beyond : lines ≤ line → OrderShown (sheetFrom cl fills lines) event line (record { event = event; what = 70; a = 0; b = 0; c = 0 })
+  unfolding sheetFrom
+  order-beyond h = record { says = rw (mapped-beyond (tableLine cl fills) _ lines line h) }
+
+  pub order-known : line < lines → (rest : ℕ) → rest ≡ getD cl (line * 8 + 1) 0 - getD fills line 0
+      → OrderShown (sheetFrom cl fills lines) event line (record { event = event; what = 70; a = getD cl (line * 8 + 2) 0; b = getD fills line 0; c = rest })
+  unfolding sheetFrom
+  order-known h rest e = record { says = rw (mapped-at (tableLine cl fills) _ lines line h, e) }
+
+module _ (own : List SheetLine) (list : List ℕ) (i : ℕ) where
+  pub row-order : letterAt list i ≡ orderLetter → (line : ℕ) → (line ≡ wordAt list i 2) × (line < 4294967296) → (r : Shown) → OrderShown own (wordAt list i 0) line r
+      → RowShown own list i r
+  unfolding rowText
+  row-order is line e r o = record { says = rw (eq-eqb _ _ is, ← e .0) (o .says) }
+
+  pub row-plain : (letterAt list i ≡ orderLetter → ⊥)
+      → RowShown own list i (record { event = wordAt list i 0; what = letterAt list i; a = wordAt list i 2; b = wordAt list i 3; c = wordAt list i 4 })
+  unfolding rowText
+  row-plain other = record { says = rw (ne-eqb _ _ other) }
+
+pub ruleset shown-laws = (order-beyond, order-known, row-order, row-plain)
+
+-- ---- widths: those of the first i rows
+
+pub record Widths (own : List SheetLine) (list : List ℕ) (n i width : ℕ) : Type 0 where
+  pub exact : width ≡ length (textFrom own list i)
+  pub bound : width ≤ i * 46
+  pub low : i ≤ n
+
+module _ (own : List SheetLine) (list : List ℕ) (n : ℕ) where
+  pub width-none : Widths own list n 0 0
+  width-none = record { exact = sym (ap length (text-none own list)); bound = omega arith; low = omega arith }
+
+  module _ (i width : ℕ) (w : Widths own list n i width) where
+    pub width-all : n ≤ i → n ≤ mostRows → Takes (textFrom own list n) mostText width
+    width-all h few = let e : i ≡ n = omega (arith, w .low) in record { exact = rw e at (w .exact); bound = omega (arith, w .bound) }
+
+    module _ (h : i < n) (s : Shown) (is : RowShown own list i s) (k : ℕ) (t : Takes (shownText s) 46 k) where
+      pub width-more : Widths own list n (i + 1) (width + k)
+      width-more =
+          let e = rw length-append at (ap length (text-more own list i)) in
+          record { exact = omega (arith, w .exact, t .exact, ap length (is .says)); bound = omega (arith, w .bound, t .bound); low = omega arith }
+
+      pub width-fits : n ≤ mostRows → Fits w64 (width + k)
+      width-fits few = record { fits = omega (arith, w .bound, t .bound) }
+
+pub ruleset width-laws = (width-none, width-all, width-more, width-fits)
+
+-- ---- the first i rows are written
+
+pub record RowsWritten (own : List SheetLine) (list : List ℕ) (n : ℕ) (s : List ℕ) (at i : ℕ) (out : List ℕ) (next : ℕ) : Type 0 where
+  pub wrote : Wrote s at (textFrom own list i) out next
+  pub room : at + length (textFrom own list n) ≤ length s
+  pub low : i ≤ n
+
+module _ (own : List SheetLine) (list : List ℕ) (n : ℕ) (s : List ℕ) (at : ℕ) where
+  pub rows-none : at + length (textFrom own list n) ≤ length s → RowsWritten own list n s at 0 s at
+  rows-none h = record { wrote = rw (text-none own list) (wrote-none s at (omega arith)); room = h; low = omega arith }
+
+  module _ (i : ℕ) (out : List ℕ) (next : ℕ) (w : RowsWritten own list n s at i out next) where
+    pub rows-length : length out ≡ length s
+    rows-length = wrote-length s at _ out next (w .wrote)
+
+    pub rows-all : n ≤ i → Wrote s at (textFrom own list n) out next
+    rows-all h = let e : i ≡ n = omega (arith, w .low) in subst (λ k. Wrote s at (textFrom own list k) out next) e (w .wrote)
+
+    module _ (h : i < n) (r : Shown) (is : RowShown own list i r) where
+      pub row-room : next + length (shownText r) ≤ length out
+      row-room =
+          let e = rw length-append at (ap length (text-more own list i)) in
+          omega (arith, rows-length, w .room, w .wrote .place, ap length (is .says), text-longer own list (i + 1) n (omega arith))
+
+      pub rows-more : (out2 : List ℕ) (next2 : ℕ) → Wrote out next (shownText r) out2 next2 → RowsWritten own list n s at (i + 1) out2 next2
+      rows-more out2 next2 v =
+          record {
+            wrote =
+                rw (text-more own list i, ← is .says)
+                (wrote-then s at (textFrom own list i) out next (shownText r) out2 next2 (w .wrote) v);
+            room = w .room;
+            low = omega arith;
+          }
+
+pub ruleset rows-laws = (rows-none, rows-length, rows-all, row-room, rows-more)
+
+-- ---- our own sheet is what the tables have
+
+module _ (j : Journal) (tr cl : List ℕ) (trades n : ℕ) (fills : List ℕ) (books : Books j tr cl trades n) (own : OwnFilled j fills) where
+  lines-are : lines j ≡ map (lineAt cl) (below n)
+  unfolding lines linesFrom
+  lines-are = sym (books .lined .lines)
+
+  lines-many : length (lines j) ≡ n
+  lines-many = ap length lines-are ∙ mapped-length (lineAt cl) n
+
+  line-is : (i : ℕ) → i < n → sheet.lineAt (lines j) i ≡ lineAt cl i
+  line-is i h = rw lines-are (mapped-at (lineAt cl) _ n i h)
+
+  table-line-is : (i : ℕ) → i < n → tableLine cl fills i ≡ ownLine j (lineAt cl i)
+  unfolding ownLine
+  table-line-is i h =
+      let e : getD fills i 0 ≡ ownFill j (lineAt cl i) = own .fill-of i (omega (arith, lines-many)) ∙ ap (ownFill j) (line-is i h) in
+      rw e
+
+  pub sheet-is : sheetFrom cl fills n ≡ ownLines j
+  unfolding sheetFrom ownLines
+  sheet-is =
+      mapped-same (tableLine cl fills) (λ i. ownLine j (lineAt cl i)) n table-line-is
+      ∙ sym (ap (map (ownLine j)) lines-are ∙ map-map (ownLine j) (lineAt cl) (below n))
+
+-- ---- all of it, or 9
+
+module _ (list : List ℕ) (n : ℕ) (cl fills : List ℕ) (lines : ℕ) (s : List ℕ) where
+  abbrev whole : List ℕ
+  whole = firstLine ++ textFrom (sheetFrom cl fills lines) list n
+
+  whole-is : (j : Journal) (tr : List ℕ) (trades : ℕ) → Books j tr cl trades lines → OwnFilled j fills → Listing (j .header) (j .history) list n → whole ≡ dayText j
+  unfolding dayText
+  whole-is j tr trades books own listing =
+      ap (λ t. firstLine ++ t) (listing .so (sheetFrom cl fills lines) ∙ ap (λ l. flatMap printedLine (listed (j .header) l (j .history))) (sheet-is j tr cl trades lines fills books own))
+
+  written-prints : (r : Written) (d : List ℕ) → Writes s whole r d → Prints list n cl fills lines s r d
+  written-prints r d w =
+      record {
+        so = λ j tr trades books own listing.
+            let v = subst (λ t. Writes s t r d) (whole-is j tr trades books own listing) w in (v .answer, v .lent);
+      }
+
+  module _ (first rest : ℕ) (a : Takes firstLine 17 first) (b : Takes (textFrom (sheetFrom cl fills lines) list n) mostText rest) where
+    whole-width : first + rest ≡ length whole
+    whole-width = rw length-append (omega (arith, a .exact, b .exact))
+
+    pub print-short : length s < first + rest → Prints list n cl fills lines s (Refused 9) s
+    print-short h = written-prints (Refused 9) s (writes-short s whole (first + rest) whole-width h)
+
+    module _ (h : first + rest ≤ length s) where
+      pub print-first-room : 0 + length firstLine ≤ length s
+      print-first-room = omega (arith, a .exact)
+
+      module _ (d : List ℕ) (p : ℕ) (w : Wrote s 0 firstLine d p) where
+        pub print-rows-room : p + length (textFrom (sheetFrom cl fills lines) list n) ≤ length d
+        print-rows-room = omega (arith, a .exact, b .exact, w .place, wrote-length s 0 firstLine d p w)
+
+  pub print-all : (d : List ℕ) (p : ℕ) → Wrote s 0 firstLine d p → (e : List ℕ) (q : ℕ) → Wrote d p (textFrom (sheetFrom cl fills lines) list n) e q
+      → Prints list n cl fills lines s (To q) e
+  print-all d p w e q v = written-prints (To q) e (writes-all s whole e q (wrote-then s 0 firstLine d p _ e q w v))
+
+  pub print-length : (d : List ℕ) (p : ℕ) → Wrote s 0 firstLine d p → (t e : List ℕ) (q : ℕ) → Wrote d p t e q → length e ≡ length s
+  print-length d p w t e q v = wrote-length d p t e q v ∙ wrote-length s 0 firstLine d p w
+
+pub ruleset print-laws = (print-short, print-first-room, print-rows-room, print-all, print-length)

@@ -1,0 +1,118 @@
+-- The day's list as rows: five words for each line that will be printed, its event, its letter as a byte, a, b and c.
+-- Of a Satisfaction Order a is the number of its line: what stands there in our own sheet is looked up when the list is printed.
+use mathlib.Core.Path.{_≡_}
+use mathlib.Core.List.{List, _∷_, _++_, map, flatMap}
+use Prim.Native.Nat.{ℕ, _+_, _-_, _*_, _%_, _<_, _≤_}
+use lib.ListN.{getD, length}
+use Rattle.rules.specs.Basics.{if_then_else_, _==_, below}
+use Rattle.rules.specs.Header.{Header}
+use Rattle.rules.specs.Record.{Event, isTrade, isSent, isSatisfaction}
+use Rattle.rules.specs.Journal.{History, Journal, count}
+use Rattle.rules.specs.OwnSheet.{SheetLine}
+use Rattle.rules.specs.GoodSheet.{saidAt}
+use Rattle.rules.specs.PrintedDay.{printedLine, listed, dayText}
+use Rattle.rules.specs.Writing.{into, lentAfter}
+use Rattle.rows.specs.Rows.{Reads}
+use Rattle.rows.specs.declared.Rec.{Rec}
+use Rattle.text.specs.Lent.{asAnswer, counted}
+use Rattle.text.specs.Lines.{lineOf}
+use Rattle.text.specs.declared.Written.{Written}
+use Rattle.quotes.specs.Tables.{Quoted, Statuses}
+use Rattle.orders.specs.Orders.{Heads}
+use Rattle.market.specs.Judged.{judgedAs}
+use Rattle.market.specs.declared.Judged.{Judged}
+use Rattle.claims.specs.Books.{Books, OwnFilled}
+use Rattle.list.specs.declared.Shown.{Shown}
+
+-- no journal has more records: each takes four bytes at least
+abbrev pub mostRows : ℕ
+mostRows = 8_192
+
+-- the words of a list with room for them
+abbrev pub listWords : ℕ
+listWords = 40_960
+
+-- the most that so many rows take as text: 46 bytes each
+abbrev pub mostText : ℕ
+mostText = 376_832
+
+-- ---- rows as text
+
+abbrev pub wordAt : List ℕ → ℕ → ℕ → ℕ
+wordAt list i k = getD list (i * 5 + k) 0
+
+abbrev pub letterAt : List ℕ → ℕ → ℕ
+letterAt list i = wordAt list i 1 % 256
+
+-- F
+abbrev pub orderLetter : ℕ
+orderLetter = 70
+
+abbrev pub orderText : ℕ → SheetLine → List ℕ
+orderText event s = lineOf event orderLetter (s .reason) (s .filled) (s .cancelled)
+
+-- row i, where this is our own sheet
+unfoldable pub rowText : List SheetLine → List ℕ → ℕ → List ℕ
+rowText own list i =
+    if letterAt list i == orderLetter then orderText (wordAt list i 0) (saidAt own (wordAt list i 2))
+    else lineOf (wordAt list i 0) (letterAt list i) (wordAt list i 2) (wordAt list i 3) (wordAt list i 4)
+
+-- the first n rows
+unfoldable pub textFrom : List SheetLine → List ℕ → ℕ → List ℕ
+textFrom own list n = flatMap (rowText own list) (below n)
+
+-- ---- the list beside the history: whatever our own sheet will be, its rows are the lines that are printed
+
+pub record Listing (h : Header) (past : History) (list : List ℕ) (n : ℕ) : Type 0 where
+  pub so : (own : List SheetLine) → textFrom own list n ≡ flatMap printedLine (listed h own past)
+  pub few : n ≤ length past
+
+-- ---- one row more
+
+pub record RowPut (list : List ℕ) (n event what a b c : ℕ) (list2 : List ℕ) (n2 : ℕ) : Type 0 where
+  pub event-word : wordAt list2 n 0 ≡ event
+  pub what-word : wordAt list2 n 1 ≡ what
+  pub a-word : wordAt list2 n 2 ≡ a
+  pub b-word : wordAt list2 n 3 ≡ b
+  pub c-word : wordAt list2 n 4 ≡ c
+  pub earlier : (m k : ℕ) → m < n → k < 5 → wordAt list2 m k ≡ wordAt list m k
+  pub long : length list2 ≡ length list
+  pub next : n2 ≡ n + 1
+
+pub record JudgedPut (list : List ℕ) (n event : ℕ) (v : Judged) (list2 : List ℕ) (n2 : ℕ) : Type 0 where
+  pub so : (own : List SheetLine) → textFrom own list2 n2 ≡ textFrom own list n ++ flatMap printedLine (judgedAs event v)
+  pub long : length list2 ≡ length list
+  pub more : n2 ≤ n + 1
+
+-- ---- one record, of any kind
+
+pub record Noted (list : List ℕ) (n : ℕ) (q st : List ℕ) (exchanges home : ℕ) (sizes : List ℕ) (sent trades lines event : ℕ) (r : Rec) (list2 : List ℕ) (n2 : ℕ) : Type 0 where
+  pub so : (h : Header) (e : Event) (past : History) → Heads h exchanges home sizes → Reads e r → Quoted past q → Statuses past st
+      → sent ≡ count isSent past → trades ≡ count isTrade past → lines ≡ count isSatisfaction past → event ≡ length past
+      → n < mostRows → length list ≡ listWords → Listing h past list n → Listing h (e ∷ past) list2 n2
+  pub long : length list2 ≡ length list
+  pub more : n2 ≤ n + 1
+
+-- ---- our own sheet, as the tables of lines and of fills have it
+
+abbrev pub tableLine : List ℕ → List ℕ → ℕ → SheetLine
+tableLine cl fills k =
+    record { reason = getD cl (k * 8 + 2) 0; filled = getD fills k 0; cancelled = getD cl (k * 8 + 1) 0 - getD fills k 0 }
+
+unfoldable pub sheetFrom : List ℕ → List ℕ → ℕ → List SheetLine
+sheetFrom cl fills n = map (tableLine cl fills) (below n)
+
+-- ---- the list printed
+
+abbrev pub shownText : Shown → List ℕ
+shownText s = lineOf (s .event) (s .what) (s .a) (s .b) (s .c)
+
+pub record OrderShown (own : List SheetLine) (event line : ℕ) (r : Shown) : Type 0 where
+  pub says : shownText r ≡ orderText event (saidAt own line)
+
+pub record RowShown (own : List SheetLine) (list : List ℕ) (i : ℕ) (r : Shown) : Type 0 where
+  pub says : shownText r ≡ rowText own list i
+
+pub record Prints (list : List ℕ) (n : ℕ) (cl fills : List ℕ) (lines : ℕ) (before : List ℕ) (r : Written) (after : List ℕ) : Type 0 where
+  pub so : (j : Journal) (tr : List ℕ) (trades : ℕ) → Books j tr cl trades lines → OwnFilled j fills → Listing (j .header) (j .history) list n
+      → (asAnswer r ≡ counted (into (length before) (dayText j))) × (after ≡ lentAfter (into (length before) (dayText j)) before)
