@@ -1,29 +1,26 @@
 -- Our own fills: each trade's due total is shared out among its lines, and every line keeps what it got.
 use mathlib.Core.Path.{_≡_, refl, sym, ap, _∙_, subst}
-use mathlib.Core.Bool.{Bool, true, false}
 use mathlib.Core.List.{List, map, List·Memᴰ}
-use Prim.Native.Nat.{ℕ, _+_, _-_, _*_, _<_, _≤_}
+use Prim.Native.Nat.{ℕ, _+_, _-_, _<_, _≤_}
 use native.Mathlib.Omega.{arith}
 use lib.Dec.{eqb}
 use lib.ListN.{getD, length, take, replicate, set, length-set}
 use lib.Seq.{getD-take, getD-set-same, getD-set-other}
 use borrow.Author.Tests.{eqb-true, eqb-false}
-use Rattle.rules.specs.Basics.{_==_, keep}
-use Rattle.rules.specs.Record.{isTrade}
-use Rattle.rules.specs.Journal.{Journal, count}
-use Rattle.rules.specs.Due.{Line, linesOf, lines, ofTrade, claimsOf, due}
+use Rattle.rules.specs.Journal.{Journal}
+use Rattle.rules.specs.Due.{Line, lines, ofTrade, due}
 use Rattle.rules.specs.OwnSheet.{ownShares, ownFill, give, empty}
 use Rattle.rules.specs.SheetCheck.{fillsOf}
 use Rattle.rules.specs.GoodSheet.{lineAt}
 use Rattle.rules.proofs.Tests.{byTest, keep-sub, by-place}
 use Rattle.rules.proofs.Lines.{LineKnown, lines-known}
-use Rattle.rules.proofs.ByTrade.{NumberedFrom, InTrade, InJournal, lines-numbered-from-0, line-among-its-trade, trade-line-among-all, trade-lines-differ, own-fill-at}
-use Rattle.sharing.specs.Lines.{Sound, Lined, SharedOut}
+use Rattle.rules.proofs.ByTrade.{lines-numbered-from-0, line-among-its-trade, trade-line-among-all, trade-lines-differ, own-fill-at}
+use Rattle.sharing.specs.Lines.{Lined, SharedOut}
 use Rattle.sharing.proofs.Gathering.{known-line-sound}
 use Rattle.claims.specs.Lines as table
 use Rattle.claims.specs.Lines.{numberAt, manyOf, tradeLines, Filing, Findable, NumberIs, Gathered, DueIs}
-use Rattle.claims.specs.Books.{Books, OwnFilled}
-use Rattle.claims.proofs.TradeLines.{trade-findable, LinesGathered, gathered-lines}
+use Rattle.claims.specs.Books.{Books}
+use Rattle.claims.proofs.TradeLines.{trade-findable, gathered-lines}
 use Rattle.sheet.proofs.Below.{as-many-below, at-below}
 use Rattle.sheet.specs.Tables.{Apart, Scattered, Scattering, FilledBelow, FillsTrade, Filling, OwnFills}
 

@@ -4,7 +4,7 @@ use mathlib.Core.List.{List}
 use Prim.Native.Nat.{ℕ, _+_, _<_, _≤_}
 use lib.ListN.{getD, length}
 use Rattle.rules.specs.Journal.{Journal}
-use Rattle.rules.specs.Due.{Line, lines}
+use Rattle.rules.specs.Due.{lines}
 use Rattle.rules.specs.OwnSheet.{ownFill}
 use Rattle.rules.specs.GoodSheet.{lineAt}
 use Rattle.claims.specs.Lines.{numberAt}

@@ -1,9 +1,14 @@
 // Our own sheet, out of the tables that the walk of a journal leaves.
 ghost use mathlib.Core.Path.{_≡_};
-ghost use Prim.Native.Nat.{_≤_, _<_};
-ghost use Rattle.rules.specs.Limits.{mostTrades};
+ghost use Prim.Native.Nat.{_-_, _*_, _≤_, _<_};
+ghost use Rattle.rules.specs.Limits.{mostTrades, mostSatisfactionOrders};
+ghost use Rattle.text.specs.Lent.{Takes};
 ghost use Rattle.claims.specs.Lines.{manyOf, Filing, Findable};
 ghost use Rattle.sheet.specs.Tables.{Scattered, FillsTrade, OwnFills};
+ghost use Rattle.sheet.specs.Written.{threeAt, bytesTo, PutsNumber, PutsLine, PutsLines, OwnWritten};
+use claims::Line;
+use rows::Refusal;
+use text::Written;
 
 // Of trade m's first k lines each gets its fill, at the word of its number.
 fn scatter(cl: &[u32; 6144], m: usize, k: usize, fill: &[u32; 8], fills: &mut [u32; 512])
@@ -49,4 +54,91 @@ pub fn own_fills(
         fill_trade(cl, tr, m, fills);
         m += 1;
     }
+}
+
+// "The rest of the order is cancelled."
+fn cancelled(size: u32, filled: u32) -> u32
+    ensures { λ r. ⌜ r ≡ size - filled ⌝ }
+{
+    if size <= filled {
+        return 0;
+    }
+    size - filled
+}
+
+// "A sheet line: reason, filled, cancelled."
+fn own_line(cl: &[u32; 6144], fills: &[u32; 512], i: usize) -> [u32; 3]
+    requires { ⌜ i < mostSatisfactionOrders ⌝ }
+    ensures { λ r. ⌜ r ≡ threeAt (now (cl .entry)) (now (fills .entry)) i ⌝ }
+{
+    let filled = fills[i];
+    let rest = cancelled(cl[i * 8 + Line::SIZE], filled);
+    [cl[i * 8 + Line::REASON], filled, rest]
+}
+
+// How many bytes the n lines take.
+fn sheet_width(cl: &[u32; 6144], fills: &[u32; 512], n: usize) -> usize
+    requires { ⌜ n ≤ mostSatisfactionOrders ⌝ }
+    ensures { λ r. ⌜ Takes (bytesTo (now (cl .entry)) (now (fills .entry)) n) (n * 12) r ⌝ }
+{
+    let mut sum: usize = 0;
+    let mut i: usize = 0;
+    while i < n {
+        let line = own_line(cl, fills, i);
+        sum += numbers::widths(&line, 3);
+        i += 1;
+    }
+    sum
+}
+
+// Every number of an accepted journal's lines can be stored.
+fn put_number(out: &mut [u8], at: usize, x: u32) -> usize
+    ensures { λ r. ⌜ PutsNumber (now (out .entry)) at x (now (out .exit)) r ⌝ }
+{
+    let number::Written::To(next) = number::write_at(out, at, x) else {
+        return at;
+    };
+    next
+}
+
+fn put_line(out: &mut [u8], at: usize, line: [u32; 3]) -> usize
+    ensures { λ r. ⌜ PutsLine (now (out .entry)) at line (now (out .exit)) r ⌝ }
+{
+    let after_reason = put_number(out, at, line[0]);
+    let after_filled = put_number(out, after_reason, line[1]);
+    put_number(out, after_filled, line[2])
+}
+
+// Line after line; there is room for them.
+fn put_lines(out: &mut [u8], cl: &[u32; 6144], fills: &[u32; 512], n: usize) -> usize
+    requires { ⌜ n ≤ mostSatisfactionOrders ⌝ }
+    ensures { λ r. ⌜ PutsLines (now (out .entry)) (now (cl .entry)) (now (fills .entry)) n (now (out .exit)) r ⌝ }
+{
+    let mut at: usize = 0;
+    let mut i: usize = 0;
+    while i < n {
+        let line = own_line(cl, fills, i);
+        at = put_line(out, at, line);
+        i += 1;
+    }
+    at
+}
+
+// Our own sheet of the journal whose tables these are, or 9 and nothing.
+pub fn write_own(
+    cl: &[u32; 6144],
+    tr: &[u32; 1024],
+    trades: usize,
+    n: usize,
+    out: &mut [u8],
+) -> Written
+    requires { ⌜ (trades ≤ mostTrades) × Filing (now cl) n ⌝ }
+    ensures { λ r. ⌜ OwnWritten (now (cl .entry)) (now (tr .entry)) trades n (now (out .entry)) r (now (out .exit)) ⌝ }
+{
+    let mut fills = [0u32; 512];
+    own_fills(cl, tr, trades, n, &mut fills);
+    if out.len() < sheet_width(cl, &fills, n) {
+        return Written::Refused(Refusal::OUTPUT_TOO_SHORT);
+    }
+    Written::To(put_lines(out, cl, &fills, n))
 }
