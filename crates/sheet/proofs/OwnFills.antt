@@ -1,117 +1,204 @@
 -- Our own fills: each trade's due total is shared out among its lines, and every line keeps what it got.
 use mathlib.Core.Path.{_≡_, refl, sym, ap, _∙_, subst}
-use mathlib.Core.Bool.{Bool, true, false}
 use mathlib.Core.List.{List, map, List·Memᴰ}
-use Prim.Native.Nat.{ℕ, _+_, _*_, _<_, _≤_}
+use Prim.Native.Nat.{ℕ, _+_, _-_, _<_, _≤_}
 use native.Mathlib.Omega.{arith}
 use lib.Dec.{eqb}
-use lib.ListN.{getD, length, take, replicate}
-use lib.Seq.{getD-take}
+use lib.ListN.{getD, length, take, replicate, set, length-set}
+use lib.Seq.{getD-take, getD-set-same, getD-set-other}
 use borrow.Author.Tests.{eqb-true, eqb-false}
-use Rattle.rules.specs.Basics.{_==_, keep}
 use Rattle.rules.specs.Journal.{Journal}
-use Rattle.rules.specs.Due.{Line, lines, ofTrade, claimsOf, due}
+use Rattle.rules.specs.Due.{Line, lines, ofTrade, due}
 use Rattle.rules.specs.OwnSheet.{ownShares, ownFill, give, empty}
 use Rattle.rules.specs.SheetCheck.{fillsOf}
 use Rattle.rules.specs.GoodSheet.{lineAt}
-use Rattle.rules.proofs.Tests.{byTest, keep-sub, by-member, map-same}
-use Rattle.rules.proofs.ByTrade.{InTrade, line-among-its-trade, own-fill-at}
-use Rattle.sharing.specs.Lines.{customersOf, Sound, Lined, SharedOut}
-use Rattle.slots.specs.Sorted.{RowIs, LineIn, Tabled, Slotted, Placed, wordsOf, Gathers, Words, Scatters}
-use Rattle.sheet.specs.Tables.{Dues, FilledBelow, FillsTrade, OwnFills, Filling}
+use Rattle.rules.proofs.Tests.{byTest, keep-sub, by-place}
+use Rattle.rules.proofs.Lines.{LineKnown, lines-known}
+use Rattle.rules.proofs.ByTrade.{lines-numbered-from-0, line-among-its-trade, trade-line-among-all, trade-lines-differ, own-fill-at}
+use Rattle.sharing.specs.Lines.{Lined, SharedOut}
+use Rattle.sharing.proofs.Gathering.{known-line-sound}
+use Rattle.claims.specs.Lines as table
+use Rattle.claims.specs.Lines.{numberAt, manyOf, tradeLines, Filing, Findable, NumberIs, Gathered, DueIs}
+use Rattle.claims.specs.Books.{Books}
+use Rattle.claims.proofs.TradeLines.{trade-findable, gathered-lines}
+use Rattle.sheet.proofs.Below.{as-many-below, at-below}
+use Rattle.sheet.specs.Tables.{Apart, Scattered, Scattering, FilledBelow, FillsTrade, Filling, OwnFills}
 
--- ---- a trade's lines side by side
+-- ---- a trade's fills, each to the word of its line
 
-pub tabled-placed : (ls : List Line) (cl : List ℕ) (n : ℕ) → Tabled ls cl n → Placed ls
-tabled-placed ls cl n t =
-    record { numbered = λ i h. t .known i (omega (arith, t .many)) .numbered; few = omega (arith, t .many, t .few) }
-
--- a word of the table is what the journal says of the line
-module _ (ls : List Line) (cl : List ℕ) (n : ℕ) (t : Tabled ls cl n) where
-  word-is : (f : Line → ℕ) (word : ℕ) → ((i : ℕ) → i < n → getD cl (i * 8 + word) 0 ≡ f (lineAt ls i)) → (m : ℕ) → wordsOf cl word (ofTrade m ls) ≡ map f (ofTrade m ls)
-  word-is f word h m =
-      map-same (λ (l : Line). getD cl (l .number * 8 + word) 0) f (ofTrade m ls)
-      (λ l mem. by-member (λ (x : Line). getD cl (x .number * 8 + word) 0 ≡ f x) _ ls
-      (λ i hi. let k : i < n = omega (arith, t .many) in ap (λ x. getD cl (x * 8 + word) 0) (t .known i k .numbered) ∙ h i k)
-      l (unfold ofTrade in keep-sub _ ls l mem))
-
-  gathered-lines : (slots counts : List ℕ) (m k : ℕ) (out out2 : List ℕ) (claim customers : List ℕ) → m < 128 → Slotted ls slots counts → k ≡ getD counts m 0
-      → Gathers cl 4 slots m k out claim → Gathers cl 3 slots m k out2 customers → length out ≡ 8 → length out2 ≡ 8 → Lined (ofTrade m ls) claim customers k
-  gathered-lines slots counts m k out out2 claim customers lm held e a b la lb =
+module _ (cl : List ℕ) (m k : ℕ) (fill fills : List ℕ) where
+  pub scattered-none : Scattering cl m k fill fills fills 0
+  scattered-none =
       record {
-        many = e ∙ held .many m lm;
-        few = omega (arith, e, held .many m lm, held .each m lm);
-        claims = a .so ls counts (tabled-placed ls cl n t) held e la ∙ word-is (λ (l : Line). l .claim) 4 (λ i h. t .rows i h .claim) m;
-        customer-contracts = b .so ls counts (tabled-placed ls cl n t) held e lb ∙ word-is (λ (l : Line). l .customers) 3 (λ i h. t .rows i h .customers) m;
-        sound = λ l mem. by-member Sound _ ls (λ i hi. let o = t .known i (omega (arith, t .many)) in record { served = o .claim-in-customers; unclaimed = o .unclaimed }) l (unfold ofTrade in keep-sub _ ls l mem);
-        claim-words = a .long ∙ la;
-        customer-words = b .long ∙ lb;
+        done = record { own = λ l a y h. absurd (omega arith); others = λ p ne. refl; long = refl };
+        low = omega arith;
       }
+
+  module _ (fills2 : List ℕ) (i : ℕ) (s : Scattering cl m k fill fills fills2 i) where
+    pub scattered-all : k ≤ i → Scattered cl m fill fills fills2 k
+    scattered-all h = let e : i ≡ k = omega (arith, s .low) in subst (Scattered cl m fill fills fills2) e (s .done)
+
+    module _ (h : i < k) where
+      pub line-there : k ≤ manyOf cl m → i < manyOf cl m
+      line-there a = omega arith
+
+      pub fill-there : Findable cl m → k ≤ manyOf cl m → i < 8
+      fill-there f a = omega (arith, f .eight)
+
+      pub scattered-more : (p : ℕ) → NumberIs cl m i p → Scattering cl m k fill fills (set fills2 p (getD fill i 0)) (i + 1)
+      scattered-more p is =
+          record {
+            done =
+                record {
+                  own = own;
+                  others = λ q ne. getD-set-other fills2 p q (getD fill i 0) 0 (λ z. ne i (omega arith) (z ∙ is .is)) ∙ s .done .others q (λ y hy. ne y (omega arith));
+                  long = simp length-set (s .done .long);
+                };
+            low = omega arith;
+          }
+        where
+          own : length fills ≡ 512 → Apart cl m (i + 1) → (y : ℕ) → y < i + 1 → getD (set fills2 p (getD fill i 0)) (numberAt cl m y) 0 ≡ getD fill y 0
+          own long apart y hy =
+              byTest (eqb y i)
+              (λ q. let e = eqb-true y i q in
+              rw e (ap (λ (x : ℕ). getD (set fills2 p (getD fill i 0)) x 0) (sym (is .is)) ∙ getD-set-same fills2 p (getD fill i 0) 0 (omega (arith, is .low, s .done .long))))
+              (λ q. let ne = eqb-false y i q in
+              getD-set-other fills2 p (numberAt cl m y) (getD fill i 0) 0 (λ z. ne (apart y i hy (omega arith) (z ∙ is .is)))
+              ∙ s .done .own long (λ a b ha hb. apart a b (omega arith) (omega arith)) y (omega (arith, ne)))
+
+pub ruleset scatter-laws = (scattered-none, scattered-all, line-there, fill-there, scattered-more)
+
+-- ---- what the tables of a whole journal say of one trade's lines
+
+trade-lines-long : (cl : List ℕ) (m k : ℕ) → length (tradeLines cl m k) ≡ k
+unfolding tradeLines
+trade-lines-long cl m k = as-many-below (λ i. table.lineAt cl (numberAt cl m i)) k
+
+trade-line-at : (cl : List ℕ) (m k y : ℕ) → y < k → lineAt (tradeLines cl m k) y ≡ table.lineAt cl (numberAt cl m y)
+unfolding tradeLines
+trade-line-at cl m k y h = at-below (λ i. table.lineAt cl (numberAt cl m i)) _ k y h
+
+module _ (j : Journal) (tr cl : List ℕ) (trades n : ℕ) (b : Books j tr cl trades n) where
+  pub known-in-books : (l : Line) → List·Memᴰ l (lines j) → LineKnown (j .header) (j .history) l
+  unfolding lines
+  known-in-books l m = lines-known (b .arrived) l m
+
+  module _ (m : ℕ) (hm : m < 128) where
+    by-trade : tradeLines cl m (manyOf cl m) ≡ ofTrade m (lines j)
+    unfolding lines
+    by-trade = b .lined .by-trade m hm
+
+    many-lines : manyOf cl m ≡ length (ofTrade m (lines j))
+    many-lines = sym (trade-lines-long cl m (manyOf cl m)) ∙ ap length by-trade
+
+    numbers-are : (y : ℕ) → y < manyOf cl m → lineAt (ofTrade m (lines j)) y .number ≡ numberAt cl m y
+    numbers-are y h = ap (λ (ls : List Line). lineAt ls y .number) (sym by-trade) ∙ ap (λ (l : Line). l .number) (trade-line-at cl m (manyOf cl m) y h)
+
+    numbers-apart : Apart cl m (manyOf cl m)
+    numbers-apart x y hx hy e =
+        trade-lines-differ m 0 (lines j) (lines-numbered-from-0 j) x y (omega (arith, many-lines)) (omega (arith, many-lines))
+        (numbers-are x hx ∙ e ∙ sym (numbers-are y hy))
+
+    -- the line with a number of the trade is of the trade
+    trade-of-number : (i y : ℕ) → y < manyOf cl m → i ≡ numberAt cl m y → lineAt (lines j) i .trade ≡ m
+    trade-of-number i y hy e =
+        let t = trade-line-among-all m 0 (lines j) (lines-numbered-from-0 j) y (omega (arith, many-lines)) in
+        let z : lineAt (ofTrade m (lines j)) y .number - 0 ≡ i = omega (arith, e, numbers-are y hy) in
+        ap (λ (x : ℕ). lineAt (lines j) x .trade) (sym z) ∙ ap (λ (l : Line). l .trade) (t .is) ∙ t .of-trade
+
+    side-by-side : (claim customers : List ℕ) (k : ℕ) → Gathered cl m claim customers k → Lined (ofTrade m (lines j)) claim customers k
+    unfolding lines
+    side-by-side claim customers k g =
+        let ls = gathered-lines (j .header) (j .history) cl n m claim customers k hm (b .lined) g in
+        record {
+          many = ls .many;
+          few = g .few;
+          claims = ls .claims;
+          customer-contracts = ls .contracts;
+          sound = λ l mem. known-line-sound (j .header) (j .history) l (known-in-books l (unfold ofTrade in keep-sub _ (lines j) l mem));
+          claim-words = g .claim-words;
+          customer-words = g .customer-words;
+        }
 
 -- ---- one trade
 
-module _ (cl slots : List ℕ) (m k d : ℕ) (fills : List ℕ) (lm : m < 128) (claim : List ℕ) (a : Gathers cl 4 slots m k (replicate 8 0) claim)
-    (customers : List ℕ) (b : Gathers cl 3 slots m k (replicate 8 0) customers) (fill : List ℕ) (s : SharedOut claim customers k d (replicate 8 0) fill)
-    (fills2 : List ℕ) (w : Scatters fill slots m k fills fills2) where
-  pub trade-filled : FillsTrade cl slots m k d fills fills2
-  trade-filled = record { so = λ j n counts t held e ed l old. next j n counts t held e ed l old; long = w .long }
-    where
-      next : (j : Journal) (n : ℕ) (counts : List ℕ) → Tabled (lines j) cl n → Slotted (lines j) slots counts → k ≡ getD counts m 0 → d ≡ due j m → length fills ≡ 512 → FilledBelow j m fills → FilledBelow j (m + 1) fills2
-      next j n counts t held e ed l old =
-          let ls : List Line = lines j in
-          let words = w .so ls counts (tabled-placed ls cl n t) held e l in
-          let lined = gathered-lines ls cl n t slots counts m k (replicate 8 0) (replicate 8 0) claim customers lm held e a b refl refl in
-          let shares : take k fill ≡ fillsOf (ownShares j m) = s .shares (ofTrade m ls) lined ∙ own ed in
-          record {
-            fill-of =
-                λ i hi below. byTest (eqb (lineAt ls i .trade) m)
-                (λ q. here i hi (eqb-true (lineAt ls i .trade) m q) t held e words shares)
-                (λ q. let ne = eqb-false (lineAt ls i .trade) m q in words .others i hi ne ∙ old .fill-of i hi (omega arith));
-          }
-        where
-          own : d ≡ due j m → fillsOf (give d (map empty (ofTrade m (lines j)))) ≡ fillsOf (ownShares j m)
-          own q = unfold ownShares in ap (λ x. fillsOf (give x (map empty (ofTrade m (lines j))))) q
+module _ (cl tr : List ℕ) (m : ℕ) (f : Findable cl m) where
+  pub trade-low : m < 128
+  trade-low = f .trade
 
-          here : (i : ℕ) → i < length (lines j) → lineAt (lines j) i .trade ≡ m → Tabled (lines j) cl n → Slotted (lines j) slots counts → k ≡ getD counts m 0
-              → Words (lines j) m fill fills fills2 k → take k fill ≡ fillsOf (ownShares j m) → getD fills2 i 0 ≡ ownFill j (lineAt (lines j) i)
-          here i hi tr t2 held2 e2 words shares =
-              let p = line-among-its-trade (lines j) i hi in
-              let low : p .place < length (ofTrade m (lines j)) = subst (λ x. p .place < length (ofTrade x (lines j))) tr (p .low) in
-              let is : lineAt (ofTrade m (lines j)) (p .place) ≡ lineAt (lines j) i = subst (λ x. lineAt (ofTrade x (lines j)) (p .place) ≡ lineAt (lines j) i) tr (p .is) in
-              let hk : p .place < k = omega (arith, e2, held2 .many m lm) in
-              let number : lineAt (ofTrade m (lines j)) (p .place) .number ≡ i = ap (λ (x : Line). x .number) is ∙ t2 .known i (omega (arith, t2 .many)) .numbered in
-              let trade : lineAt (ofTrade m (lines j)) (p .place) .trade ≡ m = ap (λ (x : Line). x .trade) is ∙ tr in
-              ap (λ x. getD fills2 x 0) (sym number)
-              ∙ words .own (p .place) hk
-              ∙ sym (getD-take k fill (p .place) 0 hk)
-              ∙ ap (λ x. getD x (p .place) 0) shares
-              ∙ sym (own-fill-at j m (p .place) low trade)
-              ∙ ap (ownFill j) is
+  module _ (claim customers : List ℕ) (k : ℕ) (g : Gathered cl m claim customers k) where
+    pub gathered-few : k ≤ 8
+    gathered-few = g .few
+
+    pub gathered-many : k ≤ manyOf cl m
+    gathered-many = omega (arith, g .many)
+
+    module _ (fills : List ℕ) (d : ℕ) (is : DueIs cl tr m d) (w : ℕ) (wide : (w ≡ d) × (w < 4294967296))
+        (fill : List ℕ) (s : SharedOut claim customers k w (replicate 8 0) fill) (fills2 : List ℕ) (sc : Scattered cl m fill fills fills2 k) where
+      module _ (j : Journal) (trades n : ℕ) (b : Books j tr cl trades n) (hm : m < trades) where
+        due-total : w ≡ due j m
+        due-total = wide .0 ∙ is .so (j .header) (j .history) (b .snaps) trades n hm (f .trade) (b .traded) (b .lined)
+
+        shares : take k fill ≡ fillsOf (ownShares j m)
+        shares =
+            s .shares (ofTrade m (lines j)) (side-by-side j tr cl trades n b m (f .trade) claim customers k g)
+            ∙ (unfold ownShares in ap (λ (x : ℕ). fillsOf (give x (map empty (ofTrade m (lines j))))) due-total)
+
+        filled-here : length fills ≡ 512 → (i : ℕ) → i < length (lines j) → lineAt (lines j) i .trade ≡ m → getD fills2 i 0 ≡ ownFill j (lineAt (lines j) i)
+        filled-here l i hi of =
+            let p = line-among-its-trade (lines j) i hi in
+            let low : p .place < length (ofTrade m (lines j)) = subst (λ x. p .place < length (ofTrade x (lines j))) of (p .low) in
+            let same : lineAt (ofTrade m (lines j)) (p .place) ≡ lineAt (lines j) i = subst (λ x. lineAt (ofTrade x (lines j)) (p .place) ≡ lineAt (lines j) i) of (p .is) in
+            let hp : p .place < manyOf cl m = omega (arith, many-lines j tr cl trades n b m (f .trade)) in
+            let hk : p .place < k = omega (arith, g .many) in
+            let number : numberAt cl m (p .place) ≡ i =
+            sym (numbers-are j tr cl trades n b m (f .trade) (p .place) hp) ∙ ap (λ (x : Line). x .number) same ∙ lines-numbered-from-0 j i hi ∙ omega arith in
+            let apart : Apart cl m k = subst (Apart cl m) (sym (g .many)) (numbers-apart j tr cl trades n b m (f .trade)) in
+            ap (λ (x : ℕ). getD fills2 x 0) (sym number)
+            ∙ sc .own l apart (p .place) hk
+            ∙ sym (getD-take k fill (p .place) 0 hk)
+            ∙ ap (λ (x : List ℕ). getD x (p .place) 0) shares
+            ∙ sym (own-fill-at j m (p .place) low (ap (λ (x : Line). x .trade) same ∙ of))
+            ∙ ap (ownFill j) same
+
+        filled-next : length fills ≡ 512 → FilledBelow j m fills → FilledBelow j (m + 1) fills2
+        filled-next l old =
+            record {
+              fill-of =
+                  λ i hi below. byTest (eqb (lineAt (lines j) i .trade) m)
+                  (λ q. filled-here l i hi (eqb-true (lineAt (lines j) i .trade) m q))
+                  (λ q. let ne = eqb-false (lineAt (lines j) i .trade) m q in
+                  sc .others i (λ y hy e. ne (trade-of-number j tr cl trades n b m (f .trade) i y (omega (arith, g .many)) e)) ∙ old .fill-of i hi (omega arith));
+            }
+
+      pub trade-filled : FillsTrade cl tr m fills fills2
+      trade-filled = record { so = filled-next; long = sc .long }
 
 -- ---- every trade
 
-module _ (cl slots counts dues : List ℕ) (trades : ℕ) (fills : List ℕ) where
-  pub filling-none : Filling cl slots counts dues trades fills fills 0
-  filling-none = record { so = λ j n t held ds l. record { fill-of = λ i hi below. let z : ⊥ = omega arith in elim z [ ] }; long = refl; low = omega arith }
+module _ (cl tr : List ℕ) (trades n : ℕ) (fills : List ℕ) where
+  pub filling-none : Filling cl tr trades n fills fills 0
+  filling-none = record { so = λ j b l. record { fill-of = λ i hi below. absurd (omega arith) }; long = refl; low = omega arith }
 
-  module _ (fills2 : List ℕ) (m : ℕ) (f : Filling cl slots counts dues trades fills fills2 m) where
-    pub filling-all : trades ≤ m → OwnFills cl slots counts dues trades fills fills2
-    filling-all h =
-        let e : m ≡ trades = omega (arith, f .low) in
-        record { so = λ j n t held ds l. subst (λ x. FilledBelow j x fills2) e (f .so j n t held ds l); long = f .long }
+  module _ (fills2 : List ℕ) (m : ℕ) (f : Filling cl tr trades n fills fills2 m) where
+    pub filling-all : trades ≤ m → OwnFills cl tr trades n fills fills2
+    filling-all h = record { so = λ j b l. record { fill-of = λ i hi. f .so j b l .fill-of i hi (known j b i hi); long = f .long ∙ l } }
+      where
+        known : (j : Journal) → Books j tr cl trades n → (i : ℕ) → i < length (lines j) → lineAt (lines j) i .trade < m
+        known j b i hi =
+            let k : LineKnown (j .header) (j .history) (lineAt (lines j) i) = by-place (LineKnown (j .header) (j .history)) _ (lines j) (known-in-books j tr cl trades n b) i hi in
+            omega (arith, k .of-a-trade, b .traded .numbered)
 
-    module _ (h : m < trades) (few : trades ≤ 128) (k : ℕ) (is : k ≡ getD counts m 0) where
-      pub filling-over : 8 < k → OwnFills cl slots counts dues trades fills fills2
-      filling-over o =
-          let lm : m < 128 = omega arith in
-          record { so = λ j n t held ds l. absurd (omega (arith, held .many m lm, held .each m lm)); long = f .long }
+    module _ (h : m < trades) where
+      pub trade-findable-here : (trades ≤ 128) × Filing cl n → Findable cl m
+      trade-findable-here r = trade-findable cl n m (r .1) (omega (arith, r .0))
 
-      pub filling-more : (fills3 : List ℕ) → FillsTrade cl slots m k (getD dues m 0) fills2 fills3 → Filling cl slots counts dues trades fills fills3 (m + 1)
+      pub filling-more : (fills3 : List ℕ) → FillsTrade cl tr m fills2 fills3 → Filling cl tr trades n fills fills3 (m + 1)
       filling-more fills3 step =
           record {
-            so = λ j n t held ds l. step .so j n counts t held is (ds .due-of m h) (f .long ∙ l) (f .so j n t held ds l);
+            so = λ j b l. step .so j trades n b h (f .long ∙ l) (f .so j b l);
             long = step .long ∙ f .long;
             low = omega arith;
           }
 
-pub ruleset fill-laws = (trade-filled, filling-none, filling-all, filling-over, filling-more)
+pub ruleset fill-laws = (trade-low, gathered-few, gathered-many, trade-filled, filling-none, filling-all, trade-findable-here, filling-more)

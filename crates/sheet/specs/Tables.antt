@@ -1,17 +1,30 @@
--- The tables that a sheet is written or checked by, and what each step over them promises.
+-- Our own sheet out of the tables that the walk of a journal leaves, and what each step over them promises.
 use mathlib.Core.Path.{_≡_}
 use mathlib.Core.List.{List}
-use Prim.Native.Nat.{ℕ, _+_, _*_, _<_, _≤_}
+use Prim.Native.Nat.{ℕ, _+_, _<_, _≤_}
 use lib.ListN.{getD, length}
 use Rattle.rules.specs.Journal.{Journal}
-use Rattle.rules.specs.Due.{Line, lines, due}
+use Rattle.rules.specs.Due.{lines}
 use Rattle.rules.specs.OwnSheet.{ownFill}
 use Rattle.rules.specs.GoodSheet.{lineAt}
-use Rattle.slots.specs.Sorted.{Tabled, Slotted}
+use Rattle.claims.specs.Lines.{numberAt}
+use Rattle.claims.specs.Books.{Books, OwnFilled}
 
--- the due total of each trade
-pub record Dues (j : Journal) (dues : List ℕ) (trades : ℕ) : Type 0 where
-  pub due-of : (m : ℕ) → m < trades → getD dues m 0 ≡ due j m
+-- ---- a trade's fills, each to the word of its line
+
+-- the first i lines of trade m have i numbers
+abbrev pub Apart : List ℕ → ℕ → ℕ → Type 0
+Apart cl m i = (x y : ℕ) → x < i → y < i → numberAt cl m x ≡ numberAt cl m y → x ≡ y
+
+-- they have their fills, and every other word stays
+pub record Scattered (cl : List ℕ) (m : ℕ) (fill fills fills2 : List ℕ) (i : ℕ) : Type 0 where
+  pub own : length fills ≡ 512 → Apart cl m i → (y : ℕ) → y < i → getD fills2 (numberAt cl m y) 0 ≡ getD fill y 0
+  pub others : (p : ℕ) → ((y : ℕ) → y < i → p ≡ numberAt cl m y → ⊥) → getD fills2 p 0 ≡ getD fills p 0
+  pub long : length fills2 ≡ length fills
+
+pub record Scattering (cl : List ℕ) (m k : ℕ) (fill fills fills2 : List ℕ) (i : ℕ) : Type 0 where
+  pub done : Scattered cl m fill fills fills2 i
+  pub low : i ≤ k
 
 -- ---- our own fills
 
@@ -19,18 +32,15 @@ pub record Dues (j : Journal) (dues : List ℕ) (trades : ℕ) : Type 0 where
 pub record FilledBelow (j : Journal) (m : ℕ) (fills : List ℕ) : Type 0 where
   pub fill-of : (i : ℕ) → i < length (lines j) → lineAt (lines j) i .trade < m → getD fills i 0 ≡ ownFill j (lineAt (lines j) i)
 
-pub record FillsTrade (cl slots : List ℕ) (m k d : ℕ) (fills fills2 : List ℕ) : Type 0 where
-  pub so : (j : Journal) (n : ℕ) (counts : List ℕ) → Tabled (lines j) cl n → Slotted (lines j) slots counts → k ≡ getD counts m 0
-      → d ≡ due j m → length fills ≡ 512 → FilledBelow j m fills → FilledBelow j (m + 1) fills2
+pub record FillsTrade (cl tr : List ℕ) (m : ℕ) (fills fills2 : List ℕ) : Type 0 where
+  pub so : (j : Journal) (trades n : ℕ) → Books j tr cl trades n → m < trades → length fills ≡ 512
+      → FilledBelow j m fills → FilledBelow j (m + 1) fills2
   pub long : length fills2 ≡ length fills
 
-pub record OwnFills (cl slots counts dues : List ℕ) (trades : ℕ) (fills fills2 : List ℕ) : Type 0 where
-  pub so : (j : Journal) (n : ℕ) → Tabled (lines j) cl n → Slotted (lines j) slots counts → Dues j dues trades
-      → length fills ≡ 512 → FilledBelow j trades fills2
-  pub long : length fills2 ≡ length fills
-
-pub record Filling (cl slots counts dues : List ℕ) (trades : ℕ) (fills fills2 : List ℕ) (m : ℕ) : Type 0 where
-  pub so : (j : Journal) (n : ℕ) → Tabled (lines j) cl n → Slotted (lines j) slots counts → Dues j dues trades
-      → length fills ≡ 512 → FilledBelow j m fills2
+pub record Filling (cl tr : List ℕ) (trades n : ℕ) (fills fills2 : List ℕ) (m : ℕ) : Type 0 where
+  pub so : (j : Journal) → Books j tr cl trades n → length fills ≡ 512 → FilledBelow j m fills2
   pub long : length fills2 ≡ length fills
   pub low : m ≤ trades
+
+pub record OwnFills (cl tr : List ℕ) (trades n : ℕ) (fills fills2 : List ℕ) : Type 0 where
+  pub so : (j : Journal) → Books j tr cl trades n → length fills ≡ 512 → OwnFilled j fills2

@@ -1,50 +1,144 @@
-// Our own sheet's fills, and the check of a sheet's lines and trades, out of the tables of a journal.
+// Our own sheet, out of the tables that the walk of a journal leaves.
 ghost use mathlib.Core.Path.{_≡_};
-ghost use Prim.Native.Nat.{_≤_, _<_};
-ghost use Rattle.sheet.specs.Tables.{FillsTrade, OwnFills};
-use slots::Line;
-use slots::Slots;
+ghost use Prim.Native.Nat.{_-_, _*_, _≤_, _<_};
+ghost use Rattle.rules.specs.Limits.{mostTrades, mostSatisfactionOrders};
+ghost use Rattle.text.specs.Lent.{Takes};
+ghost use Rattle.claims.specs.Lines.{manyOf, Filing, Findable};
+ghost use Rattle.sheet.specs.Tables.{Scattered, FillsTrade, OwnFills};
+ghost use Rattle.sheet.specs.Written.{threeAt, bytesTo, PutsNumber, PutsLine, PutsLines, OwnWritten};
+use claims::Line;
+use rows::Refusal;
+use text::Written;
 
-// The due total of trade m shared out among its k lines.
-fn fill_trade(
-    cl: &[u32; 4096],
-    slots: &[u32; 1024],
-    m: usize,
-    k: usize,
-    due: u64,
-    fills: &mut [u32; 512],
-)
-    requires { ⌜ (m < 128) × (k ≤ 8) ⌝ }
-    ensures { λ _. ⌜ FillsTrade (now (cl .entry)) (now (slots .entry)) m k due (now (fills .entry)) (now (fills .exit)) ⌝ }
+// Of trade m's first k lines each gets its fill, at the word of its number.
+fn scatter(cl: &[u32; 6144], m: usize, k: usize, fill: &[u32; 8], fills: &mut [u32; 512])
+    requires { ⌜ Findable (now cl) m ⌝ }
+    requires { ⌜ k ≤ manyOf (now cl) m ⌝ }
+    ensures { λ _. ⌜ Scattered (now (cl .entry)) m (now (fill .entry)) (now (fills .entry)) (now (fills .exit)) k ⌝ }
+{
+    let mut i: usize = 0;
+    while i < k {
+        let line = claims::line_of(cl, m, i);
+        fills[line] = fill[i];
+        i += 1;
+    }
+}
+
+// The due total of trade m shared out among its lines.
+fn fill_trade(cl: &[u32; 6144], tr: &[u32; 1024], m: usize, fills: &mut [u32; 512])
+    requires { ⌜ Findable (now cl) m ⌝ }
+    ensures { λ _. ⌜ FillsTrade (now (cl .entry)) (now (tr .entry)) m (now (fills .entry)) (now (fills .exit)) ⌝ }
 {
     let mut claim = [0u32; 8];
     let mut customers = [0u32; 8];
     let mut fill = [0u32; 8];
-    slots::gather(cl, Line::CLAIM, slots, m, k, &mut claim);
-    slots::gather(cl, Line::CUSTOMERS, slots, m, k, &mut customers);
-    sharing::share_out(&claim, &customers, k, due, &mut fill);
-    slots::scatter(&fill, slots, m, k, fills);
+    let k = claims::gather(cl, m, &mut claim, &mut customers);
+    let due = claims::due_total(cl, tr, m);
+    sharing::share_out(&claim, &customers, k, rows::wide(due), &mut fill);
+    scatter(cl, m, k, &fill, fills);
 }
 
 // What each line is filled in our own sheet.
 pub fn own_fills(
-    cl: &[u32; 4096],
-    slots: &[u32; 1024],
-    counts: &[u32; 128],
-    dues: &[u64; 128],
+    cl: &[u32; 6144],
+    tr: &[u32; 1024],
     trades: usize,
+    n: usize,
     fills: &mut [u32; 512],
 )
-    requires { ⌜ trades ≤ 128 ⌝ }
-    ensures { λ _. ⌜ OwnFills (now (cl .entry)) (now (slots .entry)) (now (counts .entry)) (now (dues .entry)) trades (now (fills .entry)) (now (fills .exit)) ⌝ }
+    requires { ⌜ (trades ≤ mostTrades) × Filing (now cl) n ⌝ }
+    ensures { λ _. ⌜ OwnFills (now (cl .entry)) (now (tr .entry)) trades n (now (fills .entry)) (now (fills .exit)) ⌝ }
 {
     let mut m: usize = 0;
     while m < trades {
-        let k = rows::index(counts[m]);
-        if Slots::EACH < k {
-            return;
-        }
-        fill_trade(cl, slots, m, k, dues[m], fills);
+        fill_trade(cl, tr, m, fills);
         m += 1;
     }
+}
+
+// "The rest of the order is cancelled."
+fn cancelled(size: u32, filled: u32) -> u32
+    ensures { λ r. ⌜ r ≡ size - filled ⌝ }
+{
+    if size <= filled {
+        return 0;
+    }
+    size - filled
+}
+
+// "A sheet line: reason, filled, cancelled."
+fn own_line(cl: &[u32; 6144], fills: &[u32; 512], i: usize) -> [u32; 3]
+    requires { ⌜ i < mostSatisfactionOrders ⌝ }
+    ensures { λ r. ⌜ r ≡ threeAt (now (cl .entry)) (now (fills .entry)) i ⌝ }
+{
+    let filled = fills[i];
+    let rest = cancelled(cl[i * 8 + Line::SIZE], filled);
+    [cl[i * 8 + Line::REASON], filled, rest]
+}
+
+// How many bytes the n lines take.
+fn sheet_width(cl: &[u32; 6144], fills: &[u32; 512], n: usize) -> usize
+    requires { ⌜ n ≤ mostSatisfactionOrders ⌝ }
+    ensures { λ r. ⌜ Takes (bytesTo (now (cl .entry)) (now (fills .entry)) n) (n * 12) r ⌝ }
+{
+    let mut sum: usize = 0;
+    let mut i: usize = 0;
+    while i < n {
+        let line = own_line(cl, fills, i);
+        sum += numbers::widths(&line, 3);
+        i += 1;
+    }
+    sum
+}
+
+// Every number of an accepted journal's lines can be stored.
+fn put_number(out: &mut [u8], at: usize, x: u32) -> usize
+    ensures { λ r. ⌜ PutsNumber (now (out .entry)) at x (now (out .exit)) r ⌝ }
+{
+    let number::Written::To(next) = number::write_at(out, at, x) else {
+        return at;
+    };
+    next
+}
+
+fn put_line(out: &mut [u8], at: usize, line: [u32; 3]) -> usize
+    ensures { λ r. ⌜ PutsLine (now (out .entry)) at line (now (out .exit)) r ⌝ }
+{
+    let after_reason = put_number(out, at, line[0]);
+    let after_filled = put_number(out, after_reason, line[1]);
+    put_number(out, after_filled, line[2])
+}
+
+// Line after line; there is room for them.
+fn put_lines(out: &mut [u8], cl: &[u32; 6144], fills: &[u32; 512], n: usize) -> usize
+    requires { ⌜ n ≤ mostSatisfactionOrders ⌝ }
+    ensures { λ r. ⌜ PutsLines (now (out .entry)) (now (cl .entry)) (now (fills .entry)) n (now (out .exit)) r ⌝ }
+{
+    let mut at: usize = 0;
+    let mut i: usize = 0;
+    while i < n {
+        let line = own_line(cl, fills, i);
+        at = put_line(out, at, line);
+        i += 1;
+    }
+    at
+}
+
+// Our own sheet of the journal whose tables these are, or 9 and nothing.
+pub fn write_own(
+    cl: &[u32; 6144],
+    tr: &[u32; 1024],
+    trades: usize,
+    n: usize,
+    out: &mut [u8],
+) -> Written
+    requires { ⌜ (trades ≤ mostTrades) × Filing (now cl) n ⌝ }
+    ensures { λ r. ⌜ OwnWritten (now (cl .entry)) (now (tr .entry)) trades n (now (out .entry)) r (now (out .exit)) ⌝ }
+{
+    let mut fills = [0u32; 512];
+    own_fills(cl, tr, trades, n, &mut fills);
+    if out.len() < sheet_width(cl, &fills, n) {
+        return Written::Refused(Refusal::OUTPUT_TOO_SHORT);
+    }
+    Written::To(put_lines(out, cl, &fills, n))
 }

@@ -6,35 +6,16 @@ use Rattle.sheet.proofs.own_fills.Statement.{statement}
 use Rattle.sheet.proofs.own_fills.Tie as tie
 use Rattle.sheet.proofs.own_fills.Reads as reads
 use Rattle.sheet.proofs.own_fills.Lts as lts
-use Rattle.rows.proofs.index.Reads as index-reads
 use Rattle.sheet.proofs.fill_trade.Reads as fill-trade-reads
 
 abbrev Inv-loop : tie.InvT-loop
-Inv-loop cl slots counts dues trades fills₀ m₀ fills m = Filling cl slots counts dues trades fills₀ fills m
+Inv-loop cl tr trades n fills₀ m₀ fills m = Filling cl tr trades n fills₀ fills m
 
 abbrev μ-loop : tie.MeasureT-loop
-μ-loop cl slots counts dues trades fills₀ m₀ fills m = trades - m
+μ-loop cl tr trades n fills₀ m₀ fills m = trades - m
 
 loop-holds : tie.Need-loop-holds Inv-loop μ-loop
 loop-holds c = search (fill-laws, needs)
-
-mul-index : tie.Need-mul-index Inv-loop μ-loop
-mul-index c = search (fill-laws, needs)
-
-element-copy-out-index : tie.Need-element-copy-out-index Inv-loop μ-loop
-element-copy-out-index c = search (fill-laws, needs)
-
-index-requires : tie.Need-index-requires Inv-loop μ-loop
-index-requires c κs = search (fill-laws, needs)
-
-returns : tie.Need-returns Inv-loop μ-loop
-returns c = search (fill-laws, needs)
-
-mul-fill-trade : tie.Need-mul-fill-trade Inv-loop μ-loop
-mul-fill-trade c = search (fill-laws, needs)
-
-element-copy-out-fill-trade : tie.Need-element-copy-out-fill-trade Inv-loop μ-loop
-element-copy-out-fill-trade c = search (fill-laws, needs)
 
 fill-trade-requires : tie.Need-fill-trade-requires Inv-loop μ-loop
 fill-trade-requires c κs = search (fill-laws, needs)
@@ -48,24 +29,10 @@ loop-less c = search (fill-laws, needs)
 loop-again : tie.Need-loop-again Inv-loop μ-loop
 loop-again c = search (fill-laws, needs)
 
-returns-2 : tie.Need-returns-2 Inv-loop μ-loop
-returns-2 c = search (fill-laws, needs)
+returns : tie.Need-returns Inv-loop μ-loop
+returns c = search (fill-laws, needs)
 
 pub own-fills-spec : {M : Type 1} → statement M
 own-fills-spec =
     tie.close
-    (tie.spec
-    Inv-loop
-    μ-loop
-    loop-holds
-    mul-index
-    element-copy-out-index
-    index-requires
-    returns
-    mul-fill-trade
-    element-copy-out-fill-trade
-    fill-trade-requires
-    add-m
-    loop-less
-    loop-again
-    returns-2)
+    (tie.spec Inv-loop μ-loop loop-holds fill-trade-requires add-m loop-less loop-again returns)

@@ -1,0 +1,262 @@
+-- The bytes of our own sheet: one line more, all lines, and that they are the journal's own sheet.
+use mathlib.Core.Path.{_≡_, refl, sym, ap, _∙_, subst}
+use mathlib.Core.List.{List, [], _∷_, _++_, map, flatMap, append-nil, append-assoc}
+use Prim.Native.Nat.{ℕ, zero, suc, _+_, _-_, _*_, _<_, _≤_}
+use native.Mathlib.Omega.{arith}
+use native.Mathlib.Numerals.{add-one}
+use mir.Val.{Fits}
+use mir.Syntax.{w64}
+use lib.ListN.{getD, length, take, replicate, length-append, length-replicate}
+use lib.Dec.{eqb}
+use borrow.Author.Tests.{eqb-true, eqb-false}
+use Rattle.rules.specs.Basics.{below, sum}
+use Rattle.rules.specs.Number.{largest, bytesOf, bytesOfAll}
+use Rattle.rules.specs.Journal.{Journal}
+use Rattle.rules.specs.Due.{Line, lines, ofTrade, claimsOf, due}
+use Rattle.rules.specs.OwnSheet.{SheetLine, lineBytes, sheetBytes, ownShares, ownFill, ownLine, ownLines, ownSheet}
+use Rattle.rules.specs.SheetCheck.{fillsOf}
+use Rattle.rules.specs.GoodSheet.{lineAt}
+use Rattle.rules.proofs.Tests.{byTest, by-place, keep-sub}
+use Rattle.rules.proofs.Lines.{LineKnown, lines-count, due-at-most-claims}
+use Rattle.rules.proofs.Giving.{total}
+use Rattle.rules.proofs.OwnSheet.{rounds-give-as-many}
+use Rattle.rules.proofs.ByTrade.{line-among-its-trade, own-fill-at}
+use Rattle.number.specs.Writing.{leftBy, leftAt, writeNumber}
+use Rattle.number.specs.declared.Written as one
+use Rattle.number.specs.declared.Written.the-variants.{To as OneTo, Refused as NoneBy}
+use Rattle.text.specs.declared.Written.the-variants.{To, Refused}
+use Rattle.text.specs.Lent.{Wrote, Takes}
+use Rattle.text.proofs.Lent.{wrote-none, wrote-then, writes-short, writes-all}
+use Rattle.numbers.specs.Numbers.{Small}
+use Rattle.numbers.proofs.Rows.{number-put, number-refused, bytes-of-more}
+use Rattle.claims.specs.Lines as table
+use Rattle.claims.specs.Lines.{linesFrom, Filing}
+use Rattle.claims.specs.Books.{Books, OwnFilled}
+use Rattle.sheet.proofs.Below.{one-more-below, at-below, same-below, map-of-map}
+use Rattle.sheet.proofs.OwnFills.{known-in-books}
+use Rattle.sheet.specs.Tables.{OwnFills}
+use Rattle.sheet.specs.Written.{saysAt, threeAt, bytesTo, Stores, Summing, PutsNumber, PutsLine, PutsLines, Putting, OwnWritten}
+
+-- ---- one line more
+
+sheet-more : (ss : List SheetLine) (s : SheetLine) → sheetBytes (ss ++ (s ∷ [])) ≡ sheetBytes ss ++ lineBytes s
+unfolding sheetBytes flatMap
+sheet-more [] s = append-nil (lineBytes s)
+sheet-more (x ∷ ss) s = rw (sheet-more ss s) (sym (append-assoc (lineBytes x) (sheetBytes ss) (lineBytes s)))
+
+module _ (cl fills : List ℕ) where
+  bytes-none : bytesTo cl fills 0 ≡ []
+  unfolding bytesTo below sheetBytes flatMap
+  bytes-none = refl
+
+  pub bytes-more : (i : ℕ) → bytesTo cl fills (i + 1) ≡ bytesTo cl fills i ++ bytesOfAll (take 3 (threeAt cl fills i))
+  unfolding bytesTo lineBytes
+  bytes-more i = rw (add-one i) (ap sheetBytes (one-more-below (saysAt cl fills) i) ∙ sheet-more (map (saysAt cl fills) (below i)) (saysAt cl fills i))
+
+  bytes-grow : (i n : ℕ) → i ≤ n → length (bytesTo cl fills i) ≤ length (bytesTo cl fills n)
+  bytes-grow i zero h = let e : i ≡ 0 = omega arith in rw e (omega arith)
+  bytes-grow i (suc n) h =
+      let more = ap length (bytes-more n) ∙ length-append (bytesTo cl fills n) (bytesOfAll (take 3 (threeAt cl fills n))) in
+      let same : n + 1 ≡ suc n = add-one n in
+      byTest (eqb i (suc n))
+      (λ q. rw (eqb-true i (suc n) q) (omega arith))
+      (λ q. let ne = eqb-false i (suc n) q in
+      let ih = bytes-grow i n (omega (arith, ne)) in
+      omega (arith, ih, more, ap (λ x. length (bytesTo cl fills x)) same))
+
+  -- ---- how many bytes
+
+  module _ (n : ℕ) where
+    pub summing-none : Summing cl fills n 0 0
+    summing-none = record { is = ap length (sym bytes-none); small = omega arith; low = omega arith }
+
+    module _ (sum i : ℕ) (s : Summing cl fills n sum i) where
+      pub summed-all : n ≤ i → Takes (bytesTo cl fills n) (n * 12) sum
+      summed-all h =
+          let e : i ≡ n = omega (arith, s .low) in
+          record { exact = subst (λ x. sum ≡ length (bytesTo cl fills x)) e (s .is); bound = omega (arith, s .small) }
+
+      module _ (h : i < n) where
+        pub line-known : n ≤ 512 → i < 512
+        line-known few = omega arith
+
+        module _ (row : List ℕ) (is : row ≡ threeAt cl fills i) where
+          pub three-there : 3 ≤ length row
+          three-there = rw is (omega arith)
+
+          module _ (w : ℕ) (t : Takes (bytesOfAll (take 3 row)) 12 w) where
+            pub summing-fits : n ≤ 512 → Fits w64 (sum + w)
+            summing-fits few = record { fits = omega (arith, s .small, t .bound) }
+
+            pub summing-more : Summing cl fills n (sum + w) (i + 1)
+            summing-more =
+                record {
+                  is = omega (arith, s .is, t .exact, ap (λ (l : List ℕ). length (bytesOfAll (take 3 l))) is, ap length (bytes-more i), length-append (bytesTo cl fills i) (bytesOfAll (take 3 (threeAt cl fills i))));
+                  small = omega (arith, s .small, t .bound);
+                  low = omega arith;
+                }
+
+pub ruleset width-laws = (summing-none, summed-all, line-known, three-there, summing-fits, summing-more)
+
+-- ---- a number, and a line of three
+
+module _ (s : List ℕ) (at x : ℕ) (r : one.Written) (d : List ℕ) (e : leftBy r d ≡ leftAt at (writeNumber x (length s - at)) s) (long : length d ≡ length s) (n : ℕ) where
+  pub puts-number : r ≡ OneTo n → PutsNumber s at x d n
+  puts-number g = record { so = λ h room. number-put s at x h room r d e n g; long = long }
+
+  pub puts-no-number : r ≡ NoneBy n → PutsNumber s at x d at
+  puts-no-number g = record { so = λ h room. number-refused s at x h room r d e n g; long = long }
+
+module _ (s : List ℕ) (at : ℕ) (row d1 : List ℕ) (p1 : ℕ) (a : PutsNumber s at (getD row 0 0) d1 p1) (d2 : List ℕ) (p2 : ℕ) (b : PutsNumber d1 p1 (getD row 1 0) d2 p2)
+    (d3 : List ℕ) (p3 : ℕ) (c : PutsNumber d2 p2 (getD row 2 0) d3 p3) where
+  pub puts-line : PutsLine s at row d3 p3
+  puts-line = record { so = λ small room. whole small room; long = c .long ∙ b .long ∙ a .long }
+    where
+      none : bytesOfAll (take 0 row) ≡ []
+      none = unfold bytesOfAll flatMap in refl
+
+      whole : Small row 3 → at + length (bytesOfAll (take 3 row)) ≤ length s → Wrote s at (bytesOfAll (take 3 row)) d3 p3
+      whole small room =
+          let b1 : bytesOfAll (take 1 row) ≡ bytesOf (getD row 0 0) = bytes-of-more row 0 (omega (arith, small .there)) ∙ ap (λ (l : List ℕ). l ++ bytesOf (getD row 0 0)) none in
+          let b2 : bytesOfAll (take 2 row) ≡ bytesOfAll (take 1 row) ++ bytesOf (getD row 1 0) = bytes-of-more row 1 (omega (arith, small .there)) in
+          let b3 : bytesOfAll (take 3 row) ≡ bytesOfAll (take 2 row) ++ bytesOf (getD row 2 0) = bytes-of-more row 2 (omega (arith, small .there)) in
+          let l2 = ap length b2 ∙ length-append (bytesOfAll (take 1 row)) (bytesOf (getD row 1 0)) in
+          let l3 = ap length b3 ∙ length-append (bytesOfAll (take 2 row)) (bytesOf (getD row 2 0)) in
+          let w1 : Wrote s at (bytesOfAll (take 1 row)) d1 p1 = rw b1 (a .so (small .storable 0 (omega arith)) (omega (arith, l2, l3, ap length b1))) in
+          let w2 = b .so (small .storable 1 (omega arith)) (omega (arith, l2, l3, w1 .place, a .long)) in
+          let w12 : Wrote s at (bytesOfAll (take 2 row)) d2 p2 = rw b2 (wrote-then s at (bytesOfAll (take 1 row)) d1 p1 (bytesOf (getD row 1 0)) d2 p2 w1 w2) in
+          let w3 = c .so (small .storable 2 (omega arith)) (omega (arith, l3, w12 .place, b .long, a .long)) in
+          rw b3 (wrote-then s at (bytesOfAll (take 2 row)) d2 p2 (bytesOf (getD row 2 0)) d3 p3 w12 w3)
+
+-- ---- line after line
+
+module _ (s cl fills : List ℕ) (n : ℕ) where
+  pub putting-none : Putting s cl fills n s 0 0
+  putting-none = record { so = λ st room. rw (bytes-none cl fills) (wrote-none s 0 (omega arith)); long = refl; low = omega arith }
+
+  module _ (out : List ℕ) (p i : ℕ) (w : Putting s cl fills n out p i) where
+    pub putting-long : length out ≡ length s
+    putting-long = w .long
+
+    pub putting-all : n ≤ i → PutsLines s cl fills n out p
+    putting-all h =
+        let e : i ≡ n = omega (arith, w .low) in
+        record { so = λ st room. subst (λ x. Wrote s 0 (bytesTo cl fills x) out p) e (w .so st room); long = w .long }
+
+    module _ (h : i < n) where
+      pub line-here : n ≤ 512 → i < 512
+      line-here few = omega arith
+
+      pub putting-more : (row : List ℕ) → row ≡ threeAt cl fills i → (out2 : List ℕ) (q : ℕ) → PutsLine out p row out2 q → Putting s cl fills n out2 q (i + 1)
+      putting-more row is out2 q v = record { so = λ st room. more st room (w .so st room); long = v .long ∙ w .long; low = omega arith }
+        where
+          more : Stores cl fills n → length (bytesTo cl fills n) ≤ length s → Wrote s 0 (bytesTo cl fills i) out p → Wrote s 0 (bytesTo cl fills (i + 1)) out2 q
+          more st room w1 =
+              let next = bytes-more cl fills i in
+              let long = ap length next ∙ length-append (bytesTo cl fills i) (bytesOfAll (take 3 (threeAt cl fills i))) in
+              let v1 : PutsLine out p (threeAt cl fills i) out2 q = subst (λ l. PutsLine out p l out2 q) is v in
+              let w2 = v1 .so (st i h) (omega (arith, long, bytes-grow cl fills (i + 1) n (omega arith), w1 .place, w .long)) in
+              rw next (wrote-then s 0 (bytesTo cl fills i) out p (bytesOfAll (take 3 (threeAt cl fills i))) out2 q w1 w2)
+
+pub ruleset put-laws = (puts-number, puts-no-number, puts-line, putting-none, putting-long, putting-all, line-here, putting-more)
+
+-- ---- they are the journal's own sheet
+
+line-from : (cl : List ℕ) (n i : ℕ) → i < n → lineAt (linesFrom cl n) i ≡ table.lineAt cl i
+unfolding linesFrom
+line-from cl n i h = at-below (table.lineAt cl) _ n i h
+
+at-most-sum : (l : List ℕ) (i : ℕ) → getD l i 0 ≤ sum l
+unfolding sum
+at-most-sum [] i = omega arith
+at-most-sum (x ∷ l) zero = omega arith
+at-most-sum (x ∷ l) (suc i) = omega (arith, at-most-sum l i)
+
+module _ (j : Journal) (tr cl : List ℕ) (trades n : ℕ) (b : Books j tr cl trades n) where
+  lines-are : linesFrom cl n ≡ lines j
+  unfolding lines
+  lines-are = b .lined .lines
+
+  lines-below : map (table.lineAt cl) (below n) ≡ lines j
+  unfolding linesFrom
+  lines-below = lines-are
+
+  many-lines : n ≡ length (lines j)
+  unfolding lines
+  many-lines = b .lined .numbered ∙ sym (lines-count (j .header) (j .history))
+
+  line-is : (i : ℕ) → i < n → lineAt (lines j) i ≡ table.lineAt cl i
+  line-is i h = ap (λ (ls : List Line). lineAt ls i) (sym lines-are) ∙ line-from cl n i h
+
+  module _ (fills : List ℕ) (o : OwnFilled j fills) where
+    says-own : (i : ℕ) → i < n → saysAt cl fills i ≡ ownLine j (table.lineAt cl i)
+    unfolding ownLine
+    says-own i h = rw (o .fill-of i (omega (arith, many-lines)), line-is i h)
+
+    pub own-bytes : bytesTo cl fills n ≡ ownSheet j
+    unfolding bytesTo ownSheet ownLines
+    own-bytes = ap sheetBytes (same-below (saysAt cl fills) (λ i. ownLine j (table.lineAt cl i)) n says-own ∙ from)
+      where
+        from : map (λ i. ownLine j (table.lineAt cl i)) (below n) ≡ map (ownLine j) (lines j)
+        from = sym (map-of-map (ownLine j) (table.lineAt cl) (below n)) ∙ ap (map (ownLine j)) lines-below
+
+    module _ (few : trades ≤ 128) where
+      total-is-due : (m : ℕ) → total (ownShares j m) ≡ due j m
+      unfolding ownShares ofTrade
+      total-is-due m =
+          rounds-give-as-many (ofTrade m (lines j)) (λ l mem. known-in-books j tr cl trades n b l (keep-sub _ (lines j) l mem) .claim-in-customers) (due j m) (due-at-most-claims j m)
+
+      claims-small : (m : ℕ) → m < 128 → sum (claimsOf (ofTrade m (lines j))) ≤ largest
+      unfolding lines
+      claims-small m h = omega (arith, b .lined .sums m h, b .filing .small m h, b .filing .few)
+
+      known-at : (i : ℕ) → i < n → LineKnown (j .header) (j .history) (lineAt (lines j) i)
+      known-at i h = by-place (LineKnown (j .header) (j .history)) _ (lines j) (known-in-books j tr cl trades n b) i (omega (arith, many-lines))
+
+      -- no fill is above what its trade is due
+      fill-small : (i : ℕ) → i < n → ownFill j (lineAt (lines j) i) ≤ largest
+      fill-small i h =
+          let m : ℕ = lineAt (lines j) i .trade in
+          let p = line-among-its-trade (lines j) i (omega (arith, many-lines)) in
+          let low : m < 128 = omega (arith, known-at i h .of-a-trade, b .traded .numbered) in
+          let at = own-fill-at j m (p .place) (p .low) (ap (λ (x : Line). x .trade) (p .is)) in
+          let same : ownFill j (lineAt (ofTrade m (lines j)) (p .place)) ≡ ownFill j (lineAt (lines j) i) = ap (ownFill j) (p .is) in
+          omega (arith, at, same, at-most-sum (fillsOf (ownShares j m)) (p .place), total-is-due m, due-at-most-claims j m, claims-small m low)
+
+      -- every number of our own sheet can be stored
+      own-stores : Stores cl fills n
+      own-stores i h = record { there = omega arith; few = omega arith; storable = each }
+        where
+          each : (x : ℕ) → x < 3 → getD (threeAt cl fills i) x 0 ≤ largest
+          each zero hx = let e = ap (λ (l : Line). l .reason) (line-is i h) in omega (arith, e, known-at i h .reason-fits)
+          each (suc zero) hx = omega (arith, o .fill-of i (omega (arith, many-lines)), fill-small i h)
+          each (suc (suc zero)) hx = let e = ap (λ (l : Line). l .size) (line-is i h) in omega (arith, e, known-at i h .size-fits)
+          each (suc (suc (suc x))) hx = absurd (omega arith)
+
+-- ---- our own sheet, or 9
+
+module _ (cl tr : List ℕ) (trades n : ℕ) (asked : (trades ≤ 128) × Filing cl n) where
+  pub lines-few : n ≤ 512
+  lines-few = asked .1 .few
+
+  module _ (fills : List ℕ) (own : OwnFills cl tr trades n (replicate 512 0) fills) (out : List ℕ) (w : ℕ) (t : Takes (bytesTo cl fills n) (n * 12) w) where
+    filled : (j : Journal) → Books j tr cl trades n → OwnFilled j fills
+    filled j b = own .so j b (length-replicate {A = ℕ} 512 0)
+
+    bytes : (j : Journal) → Books j tr cl trades n → bytesTo cl fills n ≡ ownSheet j
+    bytes j b = own-bytes j tr cl trades n b fills (filled j b)
+
+    pub own-short : length out < w → OwnWritten cl tr trades n out (Refused 9) out
+    own-short h = record { so = λ j b. let v = writes-short out (ownSheet j) w (t .exact ∙ ap length (bytes j b)) h in (v .answer, v .lent) }
+
+    pub own-written : w ≤ length out → (d : List ℕ) (p : ℕ) → PutsLines out cl fills n d p → OwnWritten cl tr trades n out (To p) d
+    own-written h d p v =
+        record {
+          so =
+              λ j b.
+              let all = v .so (own-stores j tr cl trades n b fills (filled j b) (asked .0)) (omega (arith, t .exact)) in
+              let r = writes-all out (ownSheet j) d p (subst (λ x. Wrote out 0 x d p) (bytes j b) all) in
+              (r .answer, r .lent);
+        }
+
+pub ruleset write-laws = (lines-few, own-short, own-written)
