@@ -3,9 +3,6 @@ use Rattle.checker.proofs.Lines.{line-checked}
 use borrow.Author.Needs.{needs}
 use Rattle.checker.proofs.check_line.Statement.{statement}
 use Rattle.checker.proofs.check_line.Tie as tie
-use Rattle.checker.proofs.check_line.Reads as reads
-use Rattle.checker.proofs.check_line.Lts as lts
-use Rattle.checker.proofs.judge_line.Reads as judge-line-reads
 
 mul-judge-line : tie.Need-mul-judge-line
 mul-judge-line c = search (line-checked, needs)
@@ -80,7 +77,7 @@ element-copy-out-judge-line-6 : tie.Need-element-copy-out-judge-line-6
 element-copy-out-judge-line-6 c = search (line-checked, needs)
 
 judge-line-requires : tie.Need-judge-line-requires
-judge-line-requires c κs = search (line-checked, needs)
+judge-line-requires c κs = search needs
 
 returns : tie.Need-returns
 returns c = search (line-checked, needs)

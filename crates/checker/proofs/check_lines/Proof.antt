@@ -5,9 +5,6 @@ use Rattle.checker.proofs.Lines.{lines-laws}
 use borrow.Author.Needs.{needs}
 use Rattle.checker.proofs.check_lines.Statement.{statement}
 use Rattle.checker.proofs.check_lines.Tie as tie
-use Rattle.checker.proofs.check_lines.Reads as reads
-use Rattle.checker.proofs.check_lines.Lts as lts
-use Rattle.checker.proofs.check_line.Reads as check-line-reads
 
 abbrev Inv-loop : tie.InvT-loop
 Inv-loop cl said n i₀ i = LinesChecking cl said n i

@@ -3,11 +3,6 @@ use Rattle.checker.proofs.Check.{check-laws}
 use borrow.Author.Needs.{needs}
 use Rattle.checker.proofs.check_sheet.Statement.{statement}
 use Rattle.checker.proofs.check_sheet.Tie as tie
-use Rattle.checker.proofs.check_sheet.Reads as reads
-use Rattle.checker.proofs.check_sheet.Lts as lts
-use Rattle.checker.proofs.check_lines.Reads as check-lines-reads
-use Rattle.checker.proofs.check_trades.Reads as check-trades-reads
-use Rattle.checker.proofs.read_sheet.Reads as read-sheet-reads
 
 read-sheet-requires : tie.Need-read-sheet-requires
 read-sheet-requires c κs = search (check-laws, needs)

@@ -3,14 +3,6 @@ use Rattle.checker.proofs.Trades.{trade-laws}
 use borrow.Author.Needs.{needs}
 use Rattle.checker.proofs.check_trade.Statement.{statement}
 use Rattle.checker.proofs.check_trade.Tie as tie
-use Rattle.checker.proofs.check_trade.Reads as reads
-use Rattle.checker.proofs.check_trade.Lts as lts
-use Rattle.checker.proofs.gather_fills.Reads as gather-fills-reads
-use Rattle.claims.proofs.due_total.Reads as due-total-reads
-use Rattle.claims.proofs.gather.Reads as gather-reads
-use Rattle.rows.proofs.wide.Reads as wide-reads
-use Rattle.sharing.proofs.keeps_rule.Reads as keeps-rule-reads
-use Rattle.sharing.proofs.total.Reads as total-reads
 
 gather-requires : tie.Need-gather-requires
 gather-requires c κs = search (trade-laws, needs)

@@ -5,9 +5,6 @@ use Rattle.checker.proofs.Trades.{trades-laws}
 use borrow.Author.Needs.{needs}
 use Rattle.checker.proofs.check_trades.Statement.{statement}
 use Rattle.checker.proofs.check_trades.Tie as tie
-use Rattle.checker.proofs.check_trades.Reads as reads
-use Rattle.checker.proofs.check_trades.Lts as lts
-use Rattle.checker.proofs.check_trade.Reads as check-trade-reads
 
 abbrev Inv-loop : tie.InvT-loop
 Inv-loop cl tr n said trades m₀ m = TradesChecking cl tr n said trades m

@@ -5,10 +5,6 @@ use Rattle.checker.proofs.Fills.{fills-laws}
 use borrow.Author.Needs.{needs}
 use Rattle.checker.proofs.gather_fills.Statement.{statement}
 use Rattle.checker.proofs.gather_fills.Tie as tie
-use Rattle.checker.proofs.gather_fills.Reads as reads
-use Rattle.checker.proofs.gather_fills.Lts as lts
-use Rattle.claims.proofs.line_of.Reads as line-of-reads
-use Rattle.claims.proofs.lines_of.Reads as lines-of-reads
 
 abbrev Inv-loop : tie.InvT-loop
 Inv-loop cl n said m fill₀ k i₀ fill i = FillsGathering cl said m k i fill

@@ -3,9 +3,6 @@ use Rattle.checker.proofs.Lines.{line-laws}
 use borrow.Author.Needs.{needs}
 use Rattle.checker.proofs.judge_line.Statement.{statement}
 use Rattle.checker.proofs.judge_line.Tie as tie
-use Rattle.checker.proofs.judge_line.Reads as reads
-use Rattle.checker.proofs.judge_line.Lts as lts
-use Rattle.rows.proofs.wide.Reads as wide-reads
 
 wide-requires : tie.Need-wide-requires
 wide-requires c κs = search (line-laws, needs)

@@ -3,9 +3,6 @@ use Rattle.checker.proofs.Reading.{line-read-laws}
 use borrow.Author.Needs.{needs}
 use Rattle.checker.proofs.read_line.Statement.{statement}
 use Rattle.checker.proofs.read_line.Tie as tie
-use Rattle.checker.proofs.read_line.Reads as reads
-use Rattle.checker.proofs.read_line.Lts as lts
-use Rattle.number.proofs.read_at.Reads as read-at-reads
 
 read-at-requires : tie.Need-read-at-requires
 read-at-requires c κs = search (line-read-laws, needs)

@@ -5,9 +5,6 @@ use Rattle.checker.proofs.Reading.{sheet-read-laws}
 use borrow.Author.Needs.{needs}
 use Rattle.checker.proofs.read_sheet.Statement.{statement}
 use Rattle.checker.proofs.read_sheet.Tie as tie
-use Rattle.checker.proofs.read_sheet.Reads as reads
-use Rattle.checker.proofs.read_sheet.Lts as lts
-use Rattle.checker.proofs.read_line.Reads as read-line-reads
 
 abbrev Inv-loop : tie.InvT-loop
 Inv-loop sheet n said₀ at₀ i₀ said at i = SheetReading sheet n said at i
