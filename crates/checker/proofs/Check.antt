@@ -2,14 +2,11 @@
 use mathlib.Core.Path.{_≡_, refl, sym, ap, _∙_}
 use mathlib.Core.List.{List}
 use Prim.Native.Nat.{ℕ}
-use lib.ListN.{length}
 use Rattle.rules.specs.Basics.{Answer, refused, ok, _>>=_, Passed}
-use Rattle.rules.specs.Number.{startOf}
-use Rattle.rules.specs.Journal.{Journal, journal, count}
-use Rattle.rules.specs.Record.{isTrade}
-use Rattle.rules.specs.Due.{lines}
+use Rattle.rules.specs.Journal.{Journal, journal}
 use Rattle.rules.specs.OwnSheet.{SheetLine}
-use Rattle.rules.specs.SheetCheck.{sheetLines, beside, checkLines, checkTrades, checkSheet}
+use Rattle.rules.specs.SheetCheck.{beside, checkLines, checkTrades, checkSheet}
+use Rattle.rules.proofs.Answers.{refused-not-ok}
 use Rattle.claims.specs.Lines.{lineAt}
 use Rattle.claims.specs.Books.{Books}
 use Rattle.checker.specs.declared.Checked.{Checked}
@@ -22,6 +19,28 @@ use Rattle.checker.proofs.Trades.{lines-each, each-long, beside-each}
 pub check-of : (s sheet : List ℕ) → checkSheet s sheet ≡ (journal s >>= λ j. checkOf j sheet)
 unfolding checkSheet checkOf
 check-of s sheet = refl
+
+-- "the journal's refusal first"
+pub journal-refused-first : (s sheet : List ℕ) (number place : ℕ) → journal s ≡ refused number place → checkSheet s sheet ≡ refused number place
+unfolding _>>=_
+journal-refused-first s sheet number place e = check-of s sheet ∙ rw e
+
+-- what the check of an accepted journal's tables answers is the whole check's answer
+pub whole-check : (s sheet : List ℕ) (j : Journal) → journal s ≡ ok j → (cl tr : List ℕ) (trades n : ℕ) → Books j tr cl trades n
+    → (r : Checked) → CheckedAs cl tr trades n sheet r → checkedAs r ≡ checkSheet s sheet
+unfolding _>>=_
+whole-check s sheet j e cl tr trades n b r c = c .so j b ∙ sym (check-of s sheet ∙ rw e)
+
+-- two answers that the promise allows are equal
+pub checked-settled : (r t : Checked) → checkedAs r ≡ checkedAs t → r ≡ t
+checked-settled Accepted Accepted e = refl
+checked-settled Accepted (Refused number place) e = absurd (refused-not-ok number place tt (sym e))
+checked-settled (Refused number place) Accepted e = absurd (refused-not-ok number place tt e)
+checked-settled (Refused number place) (Refused n p) e = cc
+
+pub check-settled : (j : Journal) (cl tr : List ℕ) (trades n : ℕ) → Books j tr cl trades n → (sheet : List ℕ) (r t : Checked)
+    → CheckedAs cl tr trades n sheet r → CheckedAs cl tr trades n sheet t → r ≡ t
+check-settled j cl tr trades n b sheet r t c d = checked-settled r t (c .so j b ∙ sym (d .so j b))
 
 module _ (cl tr : List ℕ) (trades n : ℕ) (sheet said : List ℕ) (r : Checked) (w : SheetRead sheet n said r) where
   -- the check once the sheet is read so

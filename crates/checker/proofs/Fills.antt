@@ -1,10 +1,10 @@
 -- The sheet's fills of one trade's lines, found by their numbers.
-use mathlib.Core.Path.{_≡_, refl, sym, ap, _∙_}
-use mathlib.Core.List.{List, [], _∷_, _++_, map, map-append}
+use mathlib.Core.Path.{_≡_, refl, sym, _∙_}
+use mathlib.Core.List.{List, [], _∷_, map-append}
 use Prim.Native.Nat.{ℕ, _+_, _*_, _≤_, _<_}
 use native.Mathlib.Numerals.{add-one}
 use native.Mathlib.Omega.{arith}
-use lib.ListN.{getD, length, set, take, length-set}
+use lib.ListN.{getD, length, set, length-set}
 use lib.Seq.{take-suc-set}
 use Rattle.rules.specs.Basics.{below}
 use Rattle.claims.specs.Lines.{lineAt, numberAt, manyOf, tradeLines, ManyIs, NumberIs}

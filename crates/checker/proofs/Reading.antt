@@ -1,6 +1,5 @@
 -- Reading a sheet: three numbers to a line, line after line, and nothing after the last.
 use mathlib.Core.Path.{_≡_, refl, sym, ap, _∙_}
-use mathlib.Core.Bool.{Bool, true, false}
 use mathlib.Core.List.{List, [], _∷_, _++_, append-nil, append-assoc}
 use Prim.Native.Nat.{ℕ, zero, suc, _+_, _-_, _*_, _≤_, _<_}
 use native.Mathlib.Nat.{sub-zero, zero-add}
@@ -9,20 +8,20 @@ use native.Mathlib.Omega.{arith}
 use lib.ListN.{length, getD, set, drop, length-set, length-drop}
 use lib.Seq.{getD-set-same, getD-set-other}
 use borrow.Author.Tests.{eq-eqb, ne-eqb}
-use Rattle.rules.specs.Basics.{_==_, Answer, refused, ok, _>>=_, demand}
+use Rattle.rules.specs.Basics.{Answer, refused, ok, _>>=_, demand}
 use Rattle.rules.specs.Refusals.{notThreeEach}
-use Rattle.rules.specs.Number.{Reads, startOf, numbers}
+use Rattle.rules.specs.Number.{startOf, numbers}
 use Rattle.rules.specs.OwnSheet.{SheetLine}
-use Rattle.rules.specs.SheetCheck.{renumbered, sheetLines}
+use Rattle.rules.specs.SheetCheck.{sheetLines}
 use Rattle.number.specs.Reading.{fieldAt, spotAt}
 use Rattle.number.specs.declared.Field.{Field}
 use Rattle.number.specs.declared.Field.the-variants.{Read as ReadTo, Cut as NoField}
-use Rattle.numbers.specs.Rows.{Many, all, cut, after, andThen, manyAt, asReads}
+use Rattle.numbers.specs.Rows.{Many, all, cut, after, manyAt}
 use Rattle.numbers.proofs.Reading.{numbers-at}
 use Rattle.checker.specs.declared.Checked.the-variants.{Accepted, Refused}
 use Rattle.checker.specs.declared.Three.{Three}
 use Rattle.checker.specs.declared.Three.the-variants.{Read, Cut}
-use Rattle.checker.specs.Said.{each, asThree, threeAt, saidLine, linesRead, SheetRead, behind, SheetReading}
+use Rattle.checker.specs.Said.{each, asThree, threeAt, saidLine, SheetRead, behind, SheetReading}
 
 -- ---- one line
 

@@ -1,7 +1,7 @@
 -- "trade by trade 25, 26": the lines of a trade beside the sheet's, and what the definitions say of them.
 use mathlib.Core.Path.{_≡_, refl, sym, ap, _∙_, subst}
 use mathlib.Core.Bool.{Bool, true, false, not}
-use mathlib.Core.List.{List, [], _∷_, _++_, map, map-append, List·Memᴰ}
+use mathlib.Core.List.{List, [], _∷_, _++_, map, map-append}
 use Prim.Native.Nat.{ℕ, zero, suc, _+_, _-_, _≤_, _<_}
 use native.Mathlib.Nat.{sub-zero, zero-add}
 use native.Mathlib.Omega.{arith}
@@ -22,7 +22,7 @@ use Rattle.sharing.specs.Lines as sharing
 use Rattle.sharing.proofs.Gathering.{known-line-sound}
 use Rattle.checker.specs.declared.Checked.{Checked}
 use Rattle.checker.specs.declared.Checked.the-variants.{Accepted, Refused}
-use Rattle.checker.specs.Said.{each, saidLine, besideAt, besides, fillOn, FillsGathered}
+use Rattle.checker.specs.Said.{each, saidLine, besides, fillOn, FillsGathered}
 use Rattle.checker.specs.Check.{checkedAs, TradeChecked, TradesChecked, TradesChecking}
 use Rattle.checker.proofs.Reading.{each-more}
 use Rattle.checker.proofs.Lines.{lines-within}
