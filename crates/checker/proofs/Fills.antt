@@ -1,0 +1,41 @@
+-- The sheet's fills of one trade's lines, found by their numbers.
+use mathlib.Core.Path.{_≡_, refl, sym, _∙_}
+use mathlib.Core.List.{List, [], _∷_, map-append}
+use Prim.Native.Nat.{ℕ, _+_, _*_, _≤_, _<_}
+use native.Mathlib.Numerals.{add-one}
+use native.Mathlib.Omega.{arith}
+use lib.ListN.{getD, length, set, length-set}
+use lib.Seq.{take-suc-set}
+use Rattle.rules.specs.Basics.{below}
+use Rattle.claims.specs.Lines.{lineAt, numberAt, manyOf, tradeLines, ManyIs, NumberIs}
+use Rattle.claims.proofs.Lines.{trade-lines-more}
+use Rattle.claims.proofs.TradeLines.{trade-findable}
+use Rattle.checker.specs.Said.{fillOn, FillsGathered, FillsGathering}
+
+module _ (cl said : List ℕ) (m k : ℕ) (mk : ManyIs cl m k) (fill : List ℕ) where
+  pub no-fill-gathered : length fill ≡ 8 → FillsGathering cl said m k 0 fill
+  unfolding tradeLines below
+  no-fill-gathered l = record { fills = refl; low = omega arith; long = l }
+
+  module _ (i : ℕ) (g : FillsGathering cl said m k i fill) where
+    pub fill-gathered : i < k → (j : ℕ) → NumberIs cl m i j → FillsGathering cl said m k (i + 1) (set fill i (getD said (j * 3 + 1) 0))
+    fill-gathered h j nj =
+        let lt : i < length fill = omega (arith, mk .few, g .long) in
+        record {
+          fills =
+              rw (trade-lines-more cl m i, add-one i)
+              (take-suc-set fill i (getD said (j * 3 + 1) 0) lt
+              ∙ rw (g .fills, nj .is) (sym (map-append (fillOn said) (tradeLines cl m i) (lineAt cl (numberAt cl m i) ∷ []))));
+          low = omega arith;
+          long = simp length-set (g .long);
+        }
+
+    pub fills-gathered : k ≤ i → FillsGathered cl said m fill
+    fills-gathered h =
+        let e : i ≡ manyOf cl m = omega (arith, g .low, mk .is) in
+        record { fills = rw (← e) (g .fills); long = g .long }
+
+    pub fill-place : i < k → i < length fill
+    fill-place h = omega (arith, mk .few, g .long)
+
+pub ruleset fills-laws = (trade-findable, no-fill-gathered, fill-gathered, fills-gathered, fill-place)

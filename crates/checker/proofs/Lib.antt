@@ -1,0 +1,5 @@
+pub mod Reading
+pub mod Lines
+pub mod Fills
+pub mod Trades
+pub mod Check
