@@ -15,7 +15,7 @@ pub struct Trade {
 }
 
 impl Trade {
-    pub const KIND: u32 = 3;
+    pub const KIND: u32 = Rec::TRADE;
 }
 
 pub struct Block;
@@ -125,7 +125,7 @@ pub fn found_block(q: &[u32; 2048], n: usize, r: Rec) -> bool
     requires { ⌜ (n ≤ 8) × TradePlaced r ⌝ }
     ensures { λ b. ⌜ BlockFound (now (q .entry)) n r b ⌝ }
 {
-    if r.kind != Trade::KIND {
+    if r.kind != Rec::TRADE {
         return false;
     }
     is_block(q, n, trade_of(r))
