@@ -18,10 +18,6 @@ pub struct Order {
 }
 
 impl Order {
-    pub const SENT: u32 = Rec::SENT;
-
-    pub const RECEIVED: u32 = Rec::RECEIVED;
-
     // "type (1 P/A, 2 principal)"
     pub const LINKED: u32 = 1;
 

@@ -6,8 +6,6 @@ use rows::Rec;
 pub struct Quote;
 
 impl Quote {
-    pub const KIND: u32 = Rec::QUOTE;
-
     // How many series an exchange may quote.
     pub const SERIES: usize = 32;
 

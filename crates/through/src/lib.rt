@@ -14,10 +14,6 @@ pub struct Trade {
     pub form: u32,
 }
 
-impl Trade {
-    pub const KIND: u32 = Rec::TRADE;
-}
-
 pub struct Block;
 
 impl Block {
