@@ -1,8 +1,38 @@
 #!/bin/sh
-# Every .rt and .antt file stands in the kit's layout, and every crate folder is a line of crates.txt.
+# Every .rt and .antt file stands in the kit's layout, every crate folder is a line of crates.txt, and every must-fail edit fits its
+# file: each `old:` text stands there exactly once, where the edit's replacements before it are made.
 set -eu
 rt fmt --check
 for folder in crates/*/; do
     name=$(basename "$folder")
     grep -q "^$name:" crates.txt || { echo "crates/$name is in no line of crates.txt"; exit 1; }
+done
+for edit in crates/*/must-fail/*.edit; do
+    [ -f "$edit" ] || continue
+    CRATE=${edit%/must-fail/*} awk '
+        function unfit(why) { print FILENAME ": " why; failed = 1; exit 1 }
+        /^file: / {
+            file = substr($0, 7)
+            if (!(file in text)) {
+                path = ENVIRON["CRATE"] "/" file
+                while ((getline line < path) > 0) text[file] = text[file] line "\n"
+                if (!(file in text)) unfit("there is no " path)
+            }
+        }
+        /^old: / { old = substr($0, 6) }
+        /^new:/ {
+            new = substr($0, 5)
+            sub(/^ /, "", new)
+            at = index(text[file], old)
+            if (old == "" || !at) unfit("not in " file ": " old)
+            rest = substr(text[file], at + length(old))
+            if (index(rest, old)) unfit("more than once in " file ": " old)
+            text[file] = substr(text[file], 1, at - 1) new rest
+            old = ""
+            pairs++
+        }
+        END {
+            if (!failed && !pairs) unfit("it has no old: and new: pair")
+            exit failed
+        }' "$edit"
 done

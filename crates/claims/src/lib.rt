@@ -3,11 +3,13 @@ ghost use mathlib.Core.Path.{_≡_};
 ghost use mathlib.Core.Bool.{_&&_};
 ghost use Prim.Native.Nat.{_<_, _≤_};
 ghost use lib.ListN.{length};
+ghost use Rattle.rules.specs.Reasons.{threeMinutes};
 ghost use Rattle.orders.specs.Orders.{Headed};
 ghost use Rattle.claims.specs.Reasons.{laterThan, lateAt, requiredOf, tradeReason, lateReason, priceReason, reasonOf, claimOf, factsOf};
 ghost use Rattle.claims.specs.Lines.{manyOf, Filing, Fileable, Filed, Placed, Placeable, ClaimsStep, Findable, ManyIs, NumberIs, Gathered, DueIs};
 use prices::Side;
 use quotes::Status;
+use rows::Closing;
 use rows::Rec;
 use trades::Kept;
 use trades::Snap;
@@ -22,7 +24,7 @@ impl Receipt {
     // "or plus 60,000 if the report is at or after close less 300,000"
     pub const ONE_MINUTE: u64 = 60000;
 
-    pub const CLOSING_MINUTES: u64 = 300000;
+    pub const CLOSING_MINUTES: u64 = Closing::MINUTES as u64;
 }
 
 // What is kept of a Satisfaction Order: the row of its number. Behind these rows two more stand for each trade: the numbers of its
@@ -72,7 +74,7 @@ fn both(a: bool, b: bool) -> bool
 }
 
 fn later_than(report: u32, allowed: u64, time: u32) -> bool
-    requires { ⌜ allowed ≤ 300000 ⌝ }
+    requires { ⌜ allowed ≤ threeMinutes ⌝ }
     ensures { λ r. ⌜ r ≡ laterThan report allowed time ⌝ }
 {
     rows::wide(report) + allowed < rows::wide(time)

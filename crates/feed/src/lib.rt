@@ -1,5 +1,6 @@
 // What the programs share: lent buffers filled from standard input or a named file, answers sent, refusals said. An answer goes to standard output, whatever is no answer to standard error.
 ghost use Prim.Native.Nat.{_<_};
+use journal::Journal;
 use libc::STDIN_FILENO;
 use libc::STDOUT_FILENO;
 
@@ -13,8 +14,7 @@ pub enum Input {
 pub struct Room;
 
 impl Room {
-    // "journal | 32,768 bytes"
-    pub const JOURNAL: usize = 32768;
+    pub const JOURNAL: usize = Journal::MOST_BYTES;
 
     // One byte more is read than a journal may have: an entry that is given it refuses the journal as too long.
     pub const JOURNAL_INPUT: usize = Room::JOURNAL + 1;

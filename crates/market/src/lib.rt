@@ -7,11 +7,8 @@ ghost use Rattle.orders.specs.Orders.{Headed};
 ghost use Rattle.market.specs.Judged.{bitOf, QuoteSays, SentSays, DutySays, JudgedIs};
 use home::Against;
 use orders::Duty;
-use orders::Order;
 use orders::Sent;
-use quotes::Quote;
 use rows::Rec;
-use through::Trade;
 
 // What is printed of a record: its letter, and a, b, c.
 pub enum Judged {
@@ -74,20 +71,20 @@ pub fn judge(
     requires { ⌜ (sent ≤ mostSentOrders) × (trades ≤ mostTrades) ⌝ }
     ensures { λ a. ⌜ JudgedIs (now (q .entry)) (now (st .entry)) n home (now (sizes .entry)) sent trades r a ⌝ }
 {
-    if r.kind == Quote::KIND {
+    if r.kind == Rec::QUOTE {
         if !home::is_home(r, home) {
             return Judged::Nothing;
         }
         return quote_says(home::home_quote(q, n, home, home::quote_of(r)));
     }
-    if r.kind == Order::SENT {
+    if r.kind == Rec::SENT {
         let number = sent as u32;
         return sent_says(orders::sent_order(q, n, orders::order_of(r)), number);
     }
-    if r.kind == Order::RECEIVED {
+    if r.kind == Rec::RECEIVED {
         return duty_says(orders::received_order(q, st, n, home, sizes, orders::order_of(r)));
     }
-    if r.kind == Trade::KIND {
+    if r.kind == Rec::TRADE {
         let t = through::trade_of(r);
         let number = trades as u32;
         let count = through::count_through(q, n, home, t) as u32;

@@ -18,10 +18,6 @@ pub struct Order {
 }
 
 impl Order {
-    pub const SENT: u32 = 4;
-
-    pub const RECEIVED: u32 = 6;
-
     // "type (1 P/A, 2 principal)"
     pub const LINKED: u32 = 1;
 

@@ -6,8 +6,6 @@ use rows::Rec;
 pub struct Quote;
 
 impl Quote {
-    pub const KIND: u32 = 1;
-
     // How many series an exchange may quote.
     pub const SERIES: usize = 32;
 
@@ -26,8 +24,6 @@ impl Quote {
 pub struct Status;
 
 impl Status {
-    pub const KIND: u32 = 2;
-
     // "0 firm, 1 non-firm, 2 rotation"
     pub const NON_FIRM: u32 = 1;
 
@@ -47,7 +43,7 @@ pub fn keep_quote(q: &mut [u32; 2048], r: Rec)
     requires { ⌜ Placed r ⌝ }
     ensures { λ _. ⌜ QuotesStep r (now (q .entry)) (now (q .exit)) ⌝ }
 {
-    if r.kind == Quote::KIND {
+    if r.kind == Rec::QUOTE {
         let row = r.row;
         let at = row_of(rows::index(row[0]), rows::index(row[1]));
         rows::put_row(q, at, row);
@@ -59,7 +55,7 @@ pub fn keep_status(st: &mut [u32; 8], r: Rec)
     requires { ⌜ Placed r ⌝ }
     ensures { λ _. ⌜ StatusesStep r (now (st .entry)) (now (st .exit)) ⌝ }
 {
-    if r.kind == Status::KIND {
+    if r.kind == Rec::STATUS {
         let row = r.row;
         st[rows::index(row[0]) - 1] = row[1];
     }

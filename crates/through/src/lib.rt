@@ -14,10 +14,6 @@ pub struct Trade {
     pub form: u32,
 }
 
-impl Trade {
-    pub const KIND: u32 = 3;
-}
-
 pub struct Block;
 
 impl Block {
@@ -125,7 +121,7 @@ pub fn found_block(q: &[u32; 2048], n: usize, r: Rec) -> bool
     requires { ⌜ (n ≤ 8) × TradePlaced r ⌝ }
     ensures { λ b. ⌜ BlockFound (now (q .entry)) n r b ⌝ }
 {
-    if r.kind != Trade::KIND {
+    if r.kind != Rec::TRADE {
         return false;
     }
     is_block(q, n, trade_of(r))
