@@ -1,0 +1,115 @@
+-- Laws of the entries over the surveyed journal: its refusal is theirs, and what its tables give is what the definitions say.
+use mathlib.Core.Path.{_≡_, refl, sym, ap, _∙_}
+use mathlib.Core.List.{List}
+use Prim.Native.Nat.{ℕ, _≤_}
+use lib.ListN.{length, replicate, length-replicate}
+use Rattle.rules.specs.Basics.{Answer, refused, ok, _>>=_}
+use Rattle.rules.specs.Limits.{mostTrades, mostSatisfactionOrders}
+use Rattle.rules.specs.Journal.{Journal, journal}
+use Rattle.rules.specs.OwnSheet.{ownSheet}
+use Rattle.rules.specs.PrintedDay.{dayText}
+use Rattle.rules.specs.Writing.{into, lentAfter, writeDay, writeSheet}
+use Rattle.rules.specs.SheetCheck.{checkSheet}
+use Rattle.number.specs.Writing.{Left, leaves}
+use Rattle.text.specs.Lent.{asAnswer, counted}
+use Rattle.text.specs.declared.Written.{Written}
+use Rattle.text.specs.declared.Written.the-variants.{To, Refused}
+use Rattle.journal.specs.Entries.{leftBy}
+use Rattle.journal.specs.declared.Rewritten.{Rewritten}
+use Rattle.journal.specs.declared.Rewritten.the-variants.{Unwritten}
+use Rattle.claims.specs.Lines.{Filing}
+use Rattle.list.specs.Listing.{mostRows, listWords, Prints}
+use Rattle.survey.specs.Survey.{Told, SurveyedAs}
+use Rattle.survey.specs.declared.Surveyed.{Surveyed}
+use Rattle.survey.specs.declared.Surveyed.the-variants.{Whole, Stopped}
+use Rattle.sheet.specs.Tables.{OwnFills}
+use Rattle.sheet.specs.Written.{OwnWritten}
+use Rattle.checker.specs.Check.{checkedAs, CheckedAs}
+use Rattle.checker.specs.declared.Checked.{Checked}
+use Rattle.checker.specs.declared.Checked.the-variants.{Refused as Unfit}
+use Rattle.checker.proofs.Check.{journal-refused-first, whole-check}
+use Rattle.answers.specs.Answers.{answeredAs}
+
+-- ---- what a writer leaves
+
+left-is : (w : Written) (after : List ℕ) → leftBy (answeredAs w) after ≡ record { answer = asAnswer w; bytes = after }
+left-is (To n) after = refl
+left-is (Refused n) after = refl
+
+leaves-is : (x : Answer (List ℕ)) (before : List ℕ) → leaves x before ≡ record { answer = counted x; bytes = lentAfter x before }
+unfolding leaves _>>=_
+leaves-is (refused n p) before = refl
+leaves-is (ok bytes) before = refl
+
+written-left : (x : Answer (List ℕ)) (before after : List ℕ) (w : Written) → (asAnswer w ≡ counted x) × (after ≡ lentAfter x before)
+    → leftBy (answeredAs w) after ≡ leaves x before
+written-left x before after w is =
+    left-is w after ∙ ap (λ (a : Answer ℕ). record { answer = a; bytes = after }) (is .0)
+    ∙ ap (λ (b : List ℕ). record { answer = counted x; bytes = b }) (is .1)
+    ∙ sym (leaves-is x before)
+
+refused-left : (x : Answer (List ℕ)) (n p : ℕ) (before : List ℕ) → x ≡ refused n p → leftBy (Unwritten n p) before ≡ leaves x before
+unfolding leaves lentAfter
+refused-left x n p before e = rw e
+
+-- ---- a journal that is refused
+
+module _ (s lent tr cl list : List ℕ) (v : Surveyed) (sv : SurveyedAs s lent tr cl list v) where
+  module _ (n p : ℕ) (e : v ≡ Stopped n p) (out : List ℕ) where
+    pub day-refused : leftBy (Unwritten n p) out ≡ leaves (writeDay s (length out)) out
+    unfolding writeDay _>>=_
+    day-refused = refused-left (writeDay s (length out)) n p out (rw (sv .stopped n p e))
+
+    pub sheet-refused : leftBy (Unwritten n p) out ≡ leaves (writeSheet s (length out)) out
+    unfolding writeSheet _>>=_
+    sheet-refused = refused-left (writeSheet s (length out)) n p out (rw (sv .stopped n p e))
+
+    pub check-refused : checkedAs (Unfit n p) ≡ checkSheet s out
+    check-refused = sym (journal-refused-first s out n p (sv .stopped n p e))
+
+  -- ---- a journal that is accepted
+
+  module _ (trades lines listed : ℕ) (e : v ≡ Whole trades lines listed) where
+    told : Told s tr cl list trades lines listed
+    told = sv .whole trades lines listed e
+
+    pub books-asked : (trades ≤ mostTrades) × Filing cl lines
+    books-asked = (told .few-trades, told .books .filing)
+
+    pub sheet-written : (out out2 : List ℕ) (w : Written) → OwnWritten cl tr trades lines out w out2 → (r : Rewritten) → r ≡ answeredAs w
+        → leftBy r out2 ≡ leaves (writeSheet s (length out)) out
+    unfolding writeSheet _>>=_
+    sheet-written out out2 w wrote r er =
+        rw (er, told .accepted) (written-left (into (length out) (ownSheet (told .journal-is))) out out2 w (wrote .so (told .journal-is) (told .books)))
+
+    pub sheet-checked : (sheet : List ℕ) (r : Checked) → CheckedAs cl tr trades lines sheet r → checkedAs r ≡ checkSheet s sheet
+    sheet-checked sheet r c = whole-check s sheet (told .journal-is) (told .accepted) cl tr trades lines (told .books) r c
+
+    module _ (full : length lent ≡ listWords) where
+      pub print-asked : (listed ≤ mostRows) × (length list ≡ listWords) × (lines ≤ mostSatisfactionOrders)
+      print-asked = (told .few-listed, sv .long ∙ full, told .books .filing .few)
+
+      pub day-printed : (fills : List ℕ) → OwnFills cl tr trades lines (replicate 512 0) fills → (out out2 : List ℕ) (w : Written)
+          → Prints list listed cl fills lines out w out2 → (r : Rewritten) → r ≡ answeredAs w
+          → leftBy r out2 ≡ leaves (writeDay s (length out)) out
+      unfolding writeDay _>>=_
+      day-printed fills own out out2 w wrote r er =
+          let filled = own .so (told .journal-is) (told .books) (length-replicate {A = ℕ} 512 0) in
+          rw (er, told .accepted)
+          (written-left (into (length out) (dayText (told .journal-is))) out out2 w
+          (wrote .so (told .journal-is) tr trades (told .books) filled (told .listing (sv .long ∙ full))))
+
+pub full-list : length (replicate 40960 0) ≡ listWords
+full-list = length-replicate {A = ℕ} 40960 0
+
+pub ruleset answer-laws = (
+  day-refused,
+  sheet-refused,
+  check-refused,
+  books-asked,
+  sheet-written,
+  sheet-checked,
+  print-asked,
+  day-printed,
+  full-list,
+)

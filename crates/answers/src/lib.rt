@@ -1,0 +1,78 @@
+// What a desk asks of a journal beyond its acceptance and its totals: the printed day, our own sheet, and the check of any sheet.
+ghost use mathlib.Core.Path.{_≡_};
+ghost use lib.ListN.{length};
+ghost use Rattle.rules.specs.Writing.{writeDay, writeSheet};
+ghost use Rattle.rules.specs.SheetCheck.{checkSheet};
+ghost use Rattle.number.specs.Writing.{leaves};
+ghost use Rattle.journal.specs.Entries.{leftBy};
+ghost use Rattle.checker.specs.Check.{checkedAs};
+ghost use Rattle.answers.specs.Answers.{answeredAs};
+use checker::Checked;
+use journal::Rewritten;
+use survey::Surveyed;
+use text::Written;
+
+// "A writer's place is always 0"
+fn answered(w: Written) -> Rewritten
+    ensures { λ r. ⌜ r ≡ answeredAs w ⌝ }
+{
+    match w {
+        Written::To(bytes) => Rewritten::Written { bytes },
+        Written::Refused(no) => Rewritten::Unwritten { no, place: 0 },
+    }
+}
+
+// "a list, each line ended by LF": the verdict on every event, F from our own sheet. The journal's refusal, then 9.
+pub fn print_day(s: &[u8], out: &mut [u8]) -> Rewritten
+    ensures { λ r. ⌜ leftBy r (now (out .exit)) ≡ leaves (writeDay (now (s .entry)) (length (now (out .entry)))) (now (out .entry)) ⌝ }
+{
+    let mut tr = [0u32; 1024];
+    let mut cl = [0u32; 6144];
+    let mut rows = [0u32; 40960];
+    let mut fills = [0u32; 512];
+    match survey::survey(s, &mut tr, &mut cl, &mut rows) {
+        Surveyed::Stopped { no, place } => Rewritten::Unwritten { no, place },
+        Surveyed::Whole {
+            trades,
+            lines,
+            listed,
+        } => {
+            sheet::own_fills(&cl, &tr, trades, lines, &mut fills);
+            answered(list::print(&rows, listed, &cl, &fills, lines, out))
+        }
+    }
+}
+
+// "Sheet writer: the journal's refusal, then 9."
+pub fn write_sheet(s: &[u8], out: &mut [u8]) -> Rewritten
+    ensures { λ r. ⌜ leftBy r (now (out .exit)) ≡ leaves (writeSheet (now (s .entry)) (length (now (out .entry)))) (now (out .entry)) ⌝ }
+{
+    let mut tr = [0u32; 1024];
+    let mut cl = [0u32; 6144];
+    let mut rows = [0u32; 1];
+    match survey::survey(s, &mut tr, &mut cl, &mut rows) {
+        Surveyed::Stopped { no, place } => Rewritten::Unwritten { no, place },
+        Surveyed::Whole {
+            trades,
+            lines,
+            listed: _,
+        } => answered(sheet::write_own(&cl, &tr, trades, lines, out)),
+    }
+}
+
+// "Sheet order: the journal's refusal first; 20; then line by line 21, 22, 24; then trade by trade 25, 26."
+pub fn check_sheet(s: &[u8], sheet: &[u8]) -> Checked
+    ensures { λ r. ⌜ checkedAs r ≡ checkSheet (now (s .entry)) (now (sheet .entry)) ⌝ }
+{
+    let mut tr = [0u32; 1024];
+    let mut cl = [0u32; 6144];
+    let mut rows = [0u32; 1];
+    match survey::survey(s, &mut tr, &mut cl, &mut rows) {
+        Surveyed::Stopped { no, place } => Checked::Refused { no, place },
+        Surveyed::Whole {
+            trades,
+            lines,
+            listed: _,
+        } => checker::check_sheet(&cl, &tr, trades, lines, sheet),
+    }
+}
