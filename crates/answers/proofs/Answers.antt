@@ -16,7 +16,7 @@ use Rattle.text.specs.declared.Written.{Written}
 use Rattle.text.specs.declared.Written.the-variants.{To, Refused}
 use Rattle.journal.specs.Entries.{leftBy}
 use Rattle.journal.specs.declared.Rewritten.{Rewritten}
-use Rattle.journal.specs.declared.Rewritten.the-variants.{Unwritten}
+use Rattle.journal.specs.declared.Rewritten.the-variants.{Written as Wrote, Unwritten}
 use Rattle.claims.specs.Lines.{Filing}
 use Rattle.list.specs.Listing.{mostRows, listWords, Prints}
 use Rattle.survey.specs.Survey.{Told, SurveyedAs}
@@ -31,6 +31,15 @@ use Rattle.checker.proofs.Check.{journal-refused-first, whole-check}
 use Rattle.answers.specs.Answers.{answeredAs}
 
 -- ---- what a writer leaves
+
+module _ (w : Written) (n : ℕ) where
+  pub answered-written : w ≡ To n → Wrote n ≡ answeredAs w
+  answered-written e = rw e
+
+  pub answered-refused : w ≡ Refused n → Unwritten n 0 ≡ answeredAs w
+  answered-refused e = rw e
+
+pub ruleset answered-laws = (answered-written, answered-refused)
 
 left-is : (w : Written) (after : List ℕ) → leftBy (answeredAs w) after ≡ record { answer = asAnswer w; bytes = after }
 left-is (To n) after = refl
@@ -73,8 +82,17 @@ module _ (s lent tr cl list : List ℕ) (v : Surveyed) (sv : SurveyedAs s lent t
     told : Told s tr cl list trades lines listed
     told = sv .whole trades lines listed e
 
-    pub books-asked : (trades ≤ mostTrades) × Filing cl lines
-    books-asked = (told .few-trades, told .books .filing)
+    pub few-trades : trades ≤ mostTrades
+    few-trades = told .few-trades
+
+    pub lines-filed : Filing cl lines
+    lines-filed = told .books .filing
+
+    pub few-lines : lines ≤ mostSatisfactionOrders
+    few-lines = told .books .filing .few
+
+    pub few-rows : listed ≤ mostRows
+    few-rows = told .few-listed
 
     pub sheet-written : (out out2 : List ℕ) (w : Written) → OwnWritten cl tr trades lines out w out2 → (r : Rewritten) → r ≡ answeredAs w
         → leftBy r out2 ≡ leaves (writeSheet s (length out)) out
@@ -86,8 +104,8 @@ module _ (s lent tr cl list : List ℕ) (v : Surveyed) (sv : SurveyedAs s lent t
     sheet-checked sheet r c = whole-check s sheet (told .journal-is) (told .accepted) cl tr trades lines (told .books) r c
 
     module _ (full : length lent ≡ listWords) where
-      pub print-asked : (listed ≤ mostRows) × (length list ≡ listWords) × (lines ≤ mostSatisfactionOrders)
-      print-asked = (told .few-listed, sv .long ∙ full, told .books .filing .few)
+      pub full-rows : length list ≡ listWords
+      full-rows = sv .long ∙ full
 
       pub day-printed : (fills : List ℕ) → OwnFills cl tr trades lines (replicate 512 0) fills → (out out2 : List ℕ) (w : Written)
           → Prints list listed cl fills lines out w out2 → (r : Rewritten) → r ≡ answeredAs w
@@ -99,17 +117,20 @@ module _ (s lent tr cl list : List ℕ) (v : Surveyed) (sv : SurveyedAs s lent t
           (written-left (into (length out) (dayText (told .journal-is))) out out2 w
           (wrote .so (told .journal-is) tr trades (told .books) filled (told .listing (sv .long ∙ full))))
 
-pub full-list : length (replicate 40960 0) ≡ listWords
+pub full-list : length {A = ℕ} (replicate 40960 0) ≡ listWords
 full-list = length-replicate {A = ℕ} 40960 0
 
 pub ruleset answer-laws = (
   day-refused,
   sheet-refused,
   check-refused,
-  books-asked,
+  few-trades,
+  lines-filed,
+  few-lines,
+  few-rows,
   sheet-written,
   sheet-checked,
-  print-asked,
+  full-rows,
   day-printed,
   full-list,
 )

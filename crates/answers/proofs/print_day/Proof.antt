@@ -1,0 +1,59 @@
+use Rattle.answers.proofs.Answers.{answer-laws}
+use borrow.Author.Needs.{needs}
+use Rattle.answers.proofs.print_day.Statement.{statement}
+use Rattle.answers.proofs.print_day.Tie as tie
+use Rattle.answers.proofs.print_day.Reads as reads
+use Rattle.answers.proofs.print_day.Lts as lts
+use Rattle.answers.proofs.answered.Reads as answered-reads
+use Rattle.list.proofs.print.Reads as print-reads
+use Rattle.sheet.proofs.own_fills.Reads as own-fills-reads
+use Rattle.survey.proofs.survey.Reads as survey-reads
+
+slice-aggregate-survey : tie.Need-slice-aggregate-survey
+slice-aggregate-survey c = search (answer-laws, needs)
+
+survey-requires : tie.Need-survey-requires
+survey-requires c κs = search (answer-laws, needs)
+
+enum-known-no : tie.Need-enum-known-no
+enum-known-no c = search (answer-laws, needs)
+
+enum-known-trades : tie.Need-enum-known-trades
+enum-known-trades c = search (answer-laws, needs)
+
+own-fills-requires : tie.Need-own-fills-requires
+own-fills-requires c κs = search (answer-laws, needs)
+
+slice-aggregate-print : tie.Need-slice-aggregate-print
+slice-aggregate-print c = search (answer-laws, needs)
+
+print-requires : tie.Need-print-requires
+print-requires c κs = search (answer-laws, needs)
+
+answered-requires : tie.Need-answered-requires
+answered-requires c κs = search (answer-laws, needs)
+
+returns : tie.Need-returns
+returns c = search (answer-laws, needs)
+
+same-length : tie.Need-same-length
+same-length c = search (answer-laws, needs)
+
+returns-2 : tie.Need-returns-2
+returns-2 c = search (answer-laws, needs)
+
+pub print-day-spec : {M : Type 1} → statement M
+print-day-spec =
+    tie.close
+    (tie.spec
+    slice-aggregate-survey
+    survey-requires
+    enum-known-no
+    enum-known-trades
+    own-fills-requires
+    slice-aggregate-print
+    print-requires
+    answered-requires
+    returns
+    same-length
+    returns-2)
