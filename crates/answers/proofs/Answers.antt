@@ -28,7 +28,7 @@ use Rattle.checker.specs.Check.{checkedAs, CheckedAs}
 use Rattle.checker.specs.declared.Checked.{Checked}
 use Rattle.checker.specs.declared.Checked.the-variants.{Refused as Unfit}
 use Rattle.checker.proofs.Check.{journal-refused-first, whole-check}
-use Rattle.answers.specs.Answers.{answeredAs}
+use Rattle.answers.specs.Answers.{answeredAs, DayPrinted}
 
 -- ---- what a writer leaves
 
@@ -60,6 +60,18 @@ written-left x before after w is =
 refused-left : (x : Answer (List ℕ)) (n p : ℕ) (before : List ℕ) → x ≡ refused n p → leftBy (Unwritten n p) before ≡ leaves x before
 unfolding leaves lentAfter
 refused-left x n p before e = rw e
+
+-- our own fills, and the list with them
+pub whole-printed : (cl tr : List ℕ) (trades lines : ℕ) (rows : List ℕ) (listed : ℕ) (fills : List ℕ)
+    → OwnFills cl tr trades lines (replicate 512 0) fills → (out out2 : List ℕ) (w : Written) → Prints rows listed cl fills lines out w out2
+    → (r : Rewritten) → r ≡ answeredAs w → DayPrinted cl tr trades lines rows listed out r out2
+whole-printed cl tr trades lines rows listed fills own out out2 w wrote r er =
+    record {
+      so = λ j books listing.
+          rw er
+          (written-left (into (length out) (dayText j)) out out2 w
+          (wrote .so j tr trades books (own .so j books (length-replicate {A = ℕ} 512 0)) listing));
+    }
 
 -- ---- a journal that is refused
 
@@ -107,15 +119,10 @@ module _ (s lent tr cl list : List ℕ) (v : Surveyed) (sv : SurveyedAs s lent t
       pub full-rows : length list ≡ listWords
       full-rows = sv .long ∙ full
 
-      pub day-printed : (fills : List ℕ) → OwnFills cl tr trades lines (replicate 512 0) fills → (out out2 : List ℕ) (w : Written)
-          → Prints list listed cl fills lines out w out2 → (r : Rewritten) → r ≡ answeredAs w
+      pub day-printed : (out out2 : List ℕ) (r : Rewritten) → DayPrinted cl tr trades lines list listed out r out2
           → leftBy r out2 ≡ leaves (writeDay s (length out)) out
       unfolding writeDay _>>=_
-      day-printed fills own out out2 w wrote r er =
-          let filled = own .so (told .journal-is) (told .books) (length-replicate {A = ℕ} 512 0) in
-          rw (er, told .accepted)
-          (written-left (into (length out) (dayText (told .journal-is))) out out2 w
-          (wrote .so (told .journal-is) tr trades (told .books) filled (told .listing (sv .long ∙ full))))
+      day-printed out out2 r printed = rw (told .accepted) (printed .so (told .journal-is) (told .books) (told .listing (sv .long ∙ full)))
 
 pub full-list : length {A = ℕ} (replicate 40960 0) ≡ listWords
 full-list = length-replicate {A = ℕ} 40960 0

@@ -1,12 +1,16 @@
 // What a desk asks of a journal beyond its acceptance and its totals: the printed day, our own sheet, and the check of any sheet.
 ghost use mathlib.Core.Path.{_≡_};
+ghost use Prim.Native.Nat.{_≤_};
 ghost use lib.ListN.{length};
+ghost use Rattle.rules.specs.Limits.{mostTrades, mostSatisfactionOrders};
 ghost use Rattle.rules.specs.Writing.{writeDay, writeSheet};
 ghost use Rattle.rules.specs.SheetCheck.{checkSheet};
 ghost use Rattle.number.specs.Writing.{leaves};
 ghost use Rattle.journal.specs.Entries.{leftBy};
+ghost use Rattle.claims.specs.Lines.{Filing};
+ghost use Rattle.list.specs.Listing.{mostRows, listWords};
 ghost use Rattle.checker.specs.Check.{checkedAs};
-ghost use Rattle.answers.specs.Answers.{answeredAs};
+ghost use Rattle.answers.specs.Answers.{answeredAs, DayPrinted};
 use checker::Checked;
 use journal::Rewritten;
 use survey::Surveyed;
@@ -22,24 +26,39 @@ fn answered(w: Written) -> Rewritten
     }
 }
 
-// "a list, each line ended by LF": the verdict on every event, F from our own sheet. The journal's refusal, then 9.
+// The list of a whole journal whose tables these are, F from our own sheet.
+fn print_whole(
+    cl: &[u32; 6144],
+    tr: &[u32; 1024],
+    trades: usize,
+    lines: usize,
+    rows: &[u32],
+    listed: usize,
+    out: &mut [u8],
+) -> Rewritten
+    requires { ⌜ (trades ≤ mostTrades) × Filing (now cl) lines ⌝ }
+    requires { ⌜ (listed ≤ mostRows) × (length (now rows) ≡ listWords) × (lines ≤ mostSatisfactionOrders) ⌝ }
+    ensures { λ r. ⌜ DayPrinted (now (cl .entry)) (now (tr .entry)) trades lines (now (rows .entry)) listed (now (out .entry)) r (now (out .exit)) ⌝ }
+{
+    let mut fills = [0u32; 512];
+    sheet::own_fills(cl, tr, trades, lines, &mut fills);
+    answered(list::print(rows, listed, cl, &fills, lines, out))
+}
+
+// "a list, each line ended by LF": the verdict on every event. The journal's refusal, then 9.
 pub fn print_day(s: &[u8], out: &mut [u8]) -> Rewritten
     ensures { λ r. ⌜ leftBy r (now (out .exit)) ≡ leaves (writeDay (now (s .entry)) (length (now (out .entry)))) (now (out .entry)) ⌝ }
 {
     let mut tr = [0u32; 1024];
     let mut cl = [0u32; 6144];
     let mut rows = [0u32; 40960];
-    let mut fills = [0u32; 512];
     match survey::survey(s, &mut tr, &mut cl, &mut rows) {
         Surveyed::Stopped { no, place } => Rewritten::Unwritten { no, place },
         Surveyed::Whole {
             trades,
             lines,
             listed,
-        } => {
-            sheet::own_fills(&cl, &tr, trades, lines, &mut fills);
-            answered(list::print(&rows, listed, &cl, &fills, lines, out))
-        }
+        } => { print_whole(&cl, &tr, trades, lines, &rows, listed, out) }
     }
 }
 

@@ -4,9 +4,7 @@ use Rattle.answers.proofs.print_day.Statement.{statement}
 use Rattle.answers.proofs.print_day.Tie as tie
 use Rattle.answers.proofs.print_day.Reads as reads
 use Rattle.answers.proofs.print_day.Lts as lts
-use Rattle.answers.proofs.answered.Reads as answered-reads
-use Rattle.list.proofs.print.Reads as print-reads
-use Rattle.sheet.proofs.own_fills.Reads as own-fills-reads
+use Rattle.answers.proofs.print_whole.Reads as print-whole-reads
 use Rattle.survey.proofs.survey.Reads as survey-reads
 
 slice-aggregate-survey : tie.Need-slice-aggregate-survey
@@ -21,17 +19,11 @@ enum-known-no c = search (answer-laws, needs)
 enum-known-trades : tie.Need-enum-known-trades
 enum-known-trades c = search (answer-laws, needs)
 
-own-fills-requires : tie.Need-own-fills-requires
-own-fills-requires c κs = search (answer-laws, needs)
+slice-aggregate-print-whole : tie.Need-slice-aggregate-print-whole
+slice-aggregate-print-whole c = search (answer-laws, needs)
 
-slice-aggregate-print : tie.Need-slice-aggregate-print
-slice-aggregate-print c = search (answer-laws, needs)
-
-print-requires : tie.Need-print-requires
-print-requires c κs = search (answer-laws, needs)
-
-answered-requires : tie.Need-answered-requires
-answered-requires c κs = search (answer-laws, needs)
+print-whole-requires : tie.Need-print-whole-requires
+print-whole-requires c κs = search (answer-laws, needs)
 
 returns : tie.Need-returns
 returns c = search (answer-laws, needs)
@@ -50,10 +42,8 @@ print-day-spec =
     survey-requires
     enum-known-no
     enum-known-trades
-    own-fills-requires
-    slice-aggregate-print
-    print-requires
-    answered-requires
+    slice-aggregate-print-whole
+    print-whole-requires
     returns
     same-length
     returns-2)
