@@ -58,7 +58,7 @@ pub fn print_day(s: &[u8], out: &mut [u8]) -> Rewritten
             trades,
             lines,
             listed,
-        } => { print_whole(&cl, &tr, trades, lines, &rows, listed, out) }
+        } => print_whole(&cl, &tr, trades, lines, &rows, listed, out),
     }
 }
 

@@ -11,6 +11,7 @@ use prices::Side;
 use quotes::Status;
 use rows::Closing;
 use rows::Rec;
+use rows::Seat;
 use trades::Kept;
 use trades::Snap;
 
@@ -248,21 +249,19 @@ fn claimed(
     sn: &[u32; 8192],
     n: usize,
     trades: usize,
-    home: usize,
-    exchanges: usize,
-    close: u32,
+    seat: Seat,
     r: Rec,
 ) -> usize
     requires { ⌜ trades ≤ 128 ⌝ }
-    requires { ⌜ Headed exchanges home ⌝ }
-    requires { ⌜ Placeable r (now cl) trades exchanges n ⌝ }
+    requires { ⌜ Headed (seat .exchanges) (seat .home) ⌝ }
+    requires { ⌜ Placeable r (now cl) trades (seat .exchanges) n ⌝ }
     requires { ⌜ Filing (now cl) n ⌝ }
-    ensures { λ k. ⌜ ClaimsStep r home exchanges close (now (tr .entry)) (now (sn .entry)) trades (now (cl .entry)) n (now (cl .exit)) k ⌝ }
+    ensures { λ k. ⌜ ClaimsStep r (seat .home) (seat .exchanges) (seat .close) (now (tr .entry)) (now (sn .entry)) trades (now (cl .entry)) n (now (cl .exit)) k ⌝ }
 {
     let row = r.row;
     let m = rows::index(row[0]);
     let y = rows::index(row[1]) - 1;
-    let k = facts_at(tr, sn, m, y, home, close, row[2], r.time);
+    let k = facts_at(tr, sn, m, y, seat.home, seat.close, row[2], r.time);
     let customers = k.customers;
     let why = reason_of(k);
     let claim = claim_of(why, row[3], customers, tr[m * 8 + Kept::SIZE]);
@@ -277,19 +276,17 @@ pub fn keep_claim(
     sn: &[u32; 8192],
     n: usize,
     trades: usize,
-    home: usize,
-    exchanges: usize,
-    close: u32,
+    seat: Seat,
     r: Rec,
 ) -> usize
     requires { ⌜ trades ≤ 128 ⌝ }
-    requires { ⌜ Headed exchanges home ⌝ }
-    requires { ⌜ Placed r (now cl) trades exchanges n ⌝ }
+    requires { ⌜ Headed (seat .exchanges) (seat .home) ⌝ }
+    requires { ⌜ Placed r (now cl) trades (seat .exchanges) n ⌝ }
     requires { ⌜ Filing (now cl) n ⌝ }
-    ensures { λ k. ⌜ ClaimsStep r home exchanges close (now (tr .entry)) (now (sn .entry)) trades (now (cl .entry)) n (now (cl .exit)) k ⌝ }
+    ensures { λ k. ⌜ ClaimsStep r (seat .home) (seat .exchanges) (seat .close) (now (tr .entry)) (now (sn .entry)) trades (now (cl .entry)) n (now (cl .exit)) k ⌝ }
 {
     if r.kind == Rec::SATISFACTION {
-        return claimed(cl, tr, sn, n, trades, home, exchanges, close, r);
+        return claimed(cl, tr, sn, n, trades, seat, r);
     }
     n
 }

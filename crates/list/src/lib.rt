@@ -10,8 +10,10 @@ ghost use Rattle.text.specs.Lent.{Wrote, Takes};
 ghost use Rattle.list.specs.Listing.{mostRows, sheetFrom, textFrom, RowPut, JudgedPut, Noted, OrderShown, RowShown, Prints, listWords, mostText};
 use claims::Line;
 use market::Judged;
+use rows::Numbers;
 use rows::Rec;
 use rows::Refusal;
+use rows::Seat;
 use text::What;
 use text::Written;
 
@@ -70,36 +72,42 @@ fn put_judged(list: &mut [u32], n: usize, event: u32, v: Judged) -> usize
     }
 }
 
-// One record of any kind; `sent`, `trades`, `lines` and `event` count what came before it. Where the list has no room nothing is
+// One record of any kind; `before` and `event` count what came before it. Where the list has no room nothing is
 // judged: a walk that wants no list lends an empty one.
 pub fn note(
     list: &mut [u32],
     n: usize,
     q: &[u32; 2048],
     st: &[u32; 8],
-    exchanges: usize,
-    home: usize,
+    seat: Seat,
     sizes: &[u32; 16],
-    sent: usize,
-    trades: usize,
-    lines: usize,
+    before: Numbers,
     event: usize,
     r: Rec,
 ) -> usize
-    requires { ⌜ Headed exchanges home × RecOk exchanges home r ⌝ }
-    requires { ⌜ (sent ≤ mostSentOrders) × (trades ≤ mostTrades) × (lines ≤ mostSatisfactionOrders) ⌝ }
+    requires { ⌜ Headed (seat .exchanges) (seat .home) × RecOk (seat .exchanges) (seat .home) r ⌝ }
+    requires { ⌜ (before .orders ≤ mostSentOrders) × (before .trades ≤ mostTrades) × (before .lines ≤ mostSatisfactionOrders) ⌝ }
     requires { ⌜ (n ≤ mostRows) × (event ≤ mostRows) ⌝ }
-    ensures { λ k. ⌜ Noted (now (list .entry)) n (now (q .entry)) (now (st .entry)) exchanges home (now (sizes .entry)) sent trades lines event r (now (list .exit)) k ⌝ }
+    ensures { λ k. ⌜ Noted (now (list .entry)) n (now (q .entry)) (now (st .entry)) (seat .exchanges) (seat .home) (now (sizes .entry)) (before .orders) (before .trades) (before .lines) event r (now (list .exit)) k ⌝ }
 {
     if list.len() < (n + 1) * Row::WORDS {
         return n;
     }
     let number = event as u32;
     if r.kind == Rec::SATISFACTION {
-        let line = lines as u32;
+        let line = before.lines as u32;
         return put_shown(list, n, number, What::SATISFACTION, line, 0, 0);
     }
-    let v = market::judge(q, st, exchanges, home, sizes, sent, trades, r);
+    let v = market::judge(
+        q,
+        st,
+        seat.exchanges,
+        seat.home,
+        sizes,
+        before.orders,
+        before.trades,
+        r,
+    );
     put_judged(list, n, number, v)
 }
 

@@ -1,5 +1,4 @@
 pub mod Words
-pub mod Due
 pub mod Turns
 pub mod Places
 pub mod Rounds

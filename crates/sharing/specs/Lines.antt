@@ -1,4 +1,4 @@
--- One trade's lines as the first k words of small arrays, and what is promised of them: the due total, the shares, the share rule.
+-- One trade's lines as the first k words of small arrays, and what is promised of them: the shares, the share rule.
 use mathlib.Core.Path.{_≡_}
 use mathlib.Core.Bool.{Bool, false}
 use mathlib.Core.List.{List, map, List·Memᴰ}
@@ -42,9 +42,6 @@ abbrev pub WithinClaims : List Share → Type 0
 WithinClaims ss = (a : Share) → List·Memᴰ a ss → a .filled ≤ a .line .claim
 
 -- ---- what is promised
-
-pub record DueIs (capped : Bool) (size claims due : ℕ) : Type 0 where
-  pub is : (cs : List ℕ) → claims ≡ sum cs → due ≡ dueOf capped size cs
 
 -- the shares of our own sheet; the words after them are those that were lent
 pub record SharedOut (claim customers : List ℕ) (k due : ℕ) (before after : List ℕ) : Type 0 where

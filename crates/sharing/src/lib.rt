@@ -1,10 +1,10 @@
-// One trade's lines: what is due in all, how it is shared out among them, and whether a sheet's fills keep the share rule.
+// One trade's lines: how what is due is shared out among them, and whether a sheet's fills keep the share rule.
 // A trade has at most one line for each other exchange, so its claims, customer contracts and fills are the first k words of eight.
 ghost use mathlib.Core.Path.{_≡_};
 ghost use Prim.Native.Nat.{_≤_};
 ghost use lib.ListN.{length, take};
 ghost use Rattle.rules.specs.Basics.{sum};
-ghost use Rattle.sharing.specs.Lines.{DueIs, SharedOut, RuleAnswered};
+ghost use Rattle.sharing.specs.Lines.{SharedOut, RuleAnswered};
 ghost use Rattle.sharing.specs.Turns.{Copied, soonerOf, NextTurn, Given, Breaks};
 
 // The sum of the first k words.
@@ -19,20 +19,6 @@ pub fn total(words: &[u32; 8], k: usize) -> u64
         i += 1;
     }
     sum
-}
-
-// "the lesser of trade size and the sum of claims; else the sum of claims"
-pub fn due_of(capped: bool, size: u32, claims: u64) -> u64
-    ensures { λ r. ⌜ DueIs capped size claims r ⌝ }
-{
-    if !capped {
-        return claims;
-    }
-    let size = rows::wide(size);
-    if size < claims {
-        return size;
-    }
-    claims
 }
 
 // The line that the next contract goes to: its number, its fill with that contract, its customer contracts.

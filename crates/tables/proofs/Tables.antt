@@ -20,7 +20,7 @@ use Rattle.trades.proofs.Trades as trade-laws
 use Rattle.claims.specs.Lines.{manyOf, ClaimsStep}
 use Rattle.claims.proofs.Lines as line-laws
 use Rattle.claims.proofs.Due as due-laws
-use Rattle.tables.specs.declared.Numbers.{Numbers}
+use Rattle.rows.specs.declared.Numbers.{Numbers}
 use Rattle.tables.specs.Tables.{Holds, Orderly, Placed, TablesStep}
 
 pub all-kept : (r : Rec) (home exchanges close : ℕ) (sizes : List ℕ) (block : Bool) (q st t tr sn cl : List ℕ) (c : Numbers)

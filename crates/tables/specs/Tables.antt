@@ -13,7 +13,7 @@ use Rattle.orders.specs.Orders.{Heads}
 use Rattle.excuses.specs.Excuses as excuses
 use Rattle.trades.specs.Trades as trades
 use Rattle.claims.specs.Lines as claims
-use Rattle.tables.specs.declared.Numbers.{Numbers}
+use Rattle.rows.specs.declared.Numbers.{Numbers}
 
 pub record Holds (h : Header) (past : History) (q st t tr sn cl : List ℕ) (c : Numbers) : Type 0 where
   pub quoted : quotes.Quoted past q

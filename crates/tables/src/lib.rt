@@ -1,14 +1,9 @@
 // All tables of a day's events, and one record more: quotes and statuses as they stand, sent orders, trades, Satisfaction Orders.
 ghost use Rattle.orders.specs.Orders.{Headed};
 ghost use Rattle.tables.specs.Tables.{Orderly, Placed, TablesStep};
+use rows::Numbers;
 use rows::Rec;
-
-// How many sent orders, trades and Satisfaction Orders there are so far.
-pub struct Numbers {
-    pub orders: usize,
-    pub trades: usize,
-    pub lines: usize,
-}
+use rows::Seat;
 
 // What a record reads of the moment before it is read before it is written: a Satisfaction Order's trade, then a trade's quotes,
 // statuses and orders.
@@ -21,34 +16,19 @@ pub fn keep(
     sn: &mut [u32; 8192],
     cl: &mut [u32; 6144],
     c: Numbers,
-    home: usize,
-    exchanges: usize,
-    close: u32,
+    seat: Seat,
     sizes: &[u32; 16],
     r: Rec,
 ) -> Numbers
-    requires { ⌜ Headed exchanges home ⌝ }
-    requires { ⌜ Placed r (now cl) exchanges c ⌝ }
+    requires { ⌜ Headed (seat .exchanges) (seat .home) ⌝ }
+    requires { ⌜ Placed r (now cl) (seat .exchanges) c ⌝ }
     requires { ⌜ Orderly (now t) (now ch) (now cl) c ⌝ }
-    ensures { λ d. ⌜ TablesStep r home exchanges close (now (sizes .entry)) (now (q .entry)) (now (st .entry)) (now (t .entry)) (now (tr .entry)) (now (sn .entry)) (now (cl .entry)) c (now (q .exit)) (now (st .exit)) (now (t .exit)) (now (ch .exit)) (now (tr .exit)) (now (sn .exit)) (now (cl .exit)) d ⌝ }
+    ensures { λ d. ⌜ TablesStep r (seat .home) (seat .exchanges) (seat .close) (now (sizes .entry)) (now (q .entry)) (now (st .entry)) (now (t .entry)) (now (tr .entry)) (now (sn .entry)) (now (cl .entry)) c (now (q .exit)) (now (st .exit)) (now (t .exit)) (now (ch .exit)) (now (tr .exit)) (now (sn .exit)) (now (cl .exit)) d ⌝ }
 {
-    let block = through::found_block(q, exchanges, r);
-    let lines = claims::keep_claim(cl, tr, sn, c.lines, c.trades, home, exchanges, close, r);
-    let trades = trades::keep_trade(
-        tr,
-        sn,
-        c.trades,
-        home,
-        exchanges,
-        sizes,
-        q,
-        st,
-        t,
-        ch,
-        c.orders,
-        block,
-        r,
-    );
+    let block = through::found_block(q, seat.exchanges, r);
+    let lines = claims::keep_claim(cl, tr, sn, c.lines, c.trades, seat, r);
+    let n = c.trades;
+    let trades = trades::keep_trade(tr, sn, n, seat, sizes, q, st, t, ch, c.orders, block, r);
     let orders = excuses::keep_excuses(t, ch, c.orders, r);
     quotes::keep_quote(q, r);
     quotes::keep_status(st, r);

@@ -189,15 +189,6 @@ pub fn line_width(event: u32, what: u8, a: u32, b: u32, c: u32) -> usize
     decimal_width(event) + decimal_width(a) + decimal_width(b) + decimal_width(c) + 6
 }
 
-pub fn write_line(out: &mut [u8], event: u32, what: u8, a: u32, b: u32, c: u32) -> Written
-    ensures { λ r. ⌜ Writes (now (out .entry)) (lineOf event what a b c) r (now (out .exit)) ⌝ }
-{
-    if out.len() < line_width(event, what, a, b, c) {
-        return Written::Refused(Refusal::OUTPUT_TOO_SHORT);
-    }
-    Written::To(put_line(out, 0, event, what, a, b, c))
-}
-
 pub fn first_line_width() -> usize
     ensures { λ r. ⌜ Takes firstLine 17 r ⌝ }
 {

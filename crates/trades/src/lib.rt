@@ -9,6 +9,7 @@ use excuses::Excuse;
 use prices::Side;
 use quotes::Quote;
 use rows::Rec;
+use rows::Seat;
 
 // What is kept of a trade.
 pub struct Kept;
@@ -211,8 +212,7 @@ fn traded(
     tr: &mut [u32; 1024],
     sn: &mut [u32; 8192],
     n: usize,
-    home: usize,
-    exchanges: usize,
+    seat: Seat,
     sizes: &[u32; 16],
     q: &[u32; 2048],
     st: &[u32; 8],
@@ -223,40 +223,19 @@ fn traded(
     r: Rec,
 ) -> usize
     requires { ⌜ Placeable r n ⌝ }
-    requires { ⌜ Headed exchanges home ⌝ }
+    requires { ⌜ Headed (seat .exchanges) (seat .home) ⌝ }
     requires { ⌜ Chains (now t) (now ch) orders ⌝ }
-    ensures { λ m. ⌜ TradesStep r home exchanges (now (sizes .entry)) block (now (q .entry)) (now (st .entry)) (now (t .entry)) orders (now (tr .entry)) (now (sn .entry)) n (now (tr .exit)) (now (sn .exit)) m ⌝ }
+    ensures { λ m. ⌜ TradesStep r (seat .home) (seat .exchanges) (now (sizes .entry)) block (now (q .entry)) (now (st .entry)) (now (t .entry)) orders (now (tr .entry)) (now (sn .entry)) n (now (tr .exit)) (now (sn .exit)) m ⌝ }
 {
     let row = r.row;
     let time = r.time;
-    keep_snaps(
-        sn,
-        n,
-        exchanges,
-        q,
-        st,
-        t,
-        ch,
-        orders,
-        rows::index(row[0]),
-        row[1],
-        time,
-    );
-    let capped = is_capped(sn, n, home, exchanges, sizes, row[2]);
-    rows::put_row(
-        tr,
-        n,
-        [
-            row[1],
-            row[2],
-            bit_of(block),
-            row[4],
-            row[5],
-            time + row[6],
-            bit_of(capped),
-            0,
-        ],
-    );
+    let s = rows::index(row[0]);
+    keep_snaps(sn, n, seat.exchanges, q, st, t, ch, orders, s, row[1], time);
+    let capped = bit_of(is_capped(sn, n, seat.home, seat.exchanges, sizes, row[2]));
+    let found = bit_of(block);
+    let report = time + row[6];
+    let kept = [row[1], row[2], found, row[4], row[5], report, capped, 0];
+    rows::put_row(tr, n, kept);
     n + 1
 }
 
@@ -265,8 +244,7 @@ pub fn keep_trade(
     tr: &mut [u32; 1024],
     sn: &mut [u32; 8192],
     n: usize,
-    home: usize,
-    exchanges: usize,
+    seat: Seat,
     sizes: &[u32; 16],
     q: &[u32; 2048],
     st: &[u32; 8],
@@ -278,26 +256,12 @@ pub fn keep_trade(
 ) -> usize
     requires { ⌜ n ≤ 128 ⌝ }
     requires { ⌜ Placed r n ⌝ }
-    requires { ⌜ Headed exchanges home ⌝ }
+    requires { ⌜ Headed (seat .exchanges) (seat .home) ⌝ }
     requires { ⌜ Chains (now t) (now ch) orders ⌝ }
-    ensures { λ m. ⌜ TradesStep r home exchanges (now (sizes .entry)) block (now (q .entry)) (now (st .entry)) (now (t .entry)) orders (now (tr .entry)) (now (sn .entry)) n (now (tr .exit)) (now (sn .exit)) m ⌝ }
+    ensures { λ m. ⌜ TradesStep r (seat .home) (seat .exchanges) (now (sizes .entry)) block (now (q .entry)) (now (st .entry)) (now (t .entry)) orders (now (tr .entry)) (now (sn .entry)) n (now (tr .exit)) (now (sn .exit)) m ⌝ }
 {
     if r.kind == Rec::TRADE {
-        return traded(
-            tr,
-            sn,
-            n,
-            home,
-            exchanges,
-            sizes,
-            q,
-            st,
-            t,
-            ch,
-            orders,
-            block,
-            r,
-        );
+        return traded(tr, sn, n, seat, sizes, q, st, t, ch, orders, block, r);
     }
     n
 }

@@ -1,4 +1,4 @@
-use Rattle.trades.proofs.Trades.{trade-laws, trade-taken}
+use Rattle.trades.proofs.Trades.{trade-laws}
 use borrow.Author.Needs.{needs}
 use Rattle.trades.proofs.traded.Statement.{statement}
 use Rattle.trades.proofs.traded.Tie as tie
@@ -28,29 +28,29 @@ array-read-is-capped c = search (trade-laws, needs)
 is-capped-requires : tie.Need-is-capped-requires
 is-capped-requires c κs = search (trade-laws, needs)
 
-array-read-t22 : tie.Need-array-read-t22
-array-read-t22 c = search (trade-laws, needs)
-
-array-read-t25 : tie.Need-array-read-t25
-array-read-t25 c = search (trade-laws, needs)
-
 bit-of-requires : tie.Need-bit-of-requires
 bit-of-requires c κs = search (trade-laws, needs)
 
-array-read-t38 : tie.Need-array-read-t38
-array-read-t38 c = search (trade-laws, needs)
-
-array-read-t41 : tie.Need-array-read-t41
-array-read-t41 c = search (trade-laws, needs)
-
-array-read-t44 : tie.Need-array-read-t44
-array-read-t44 c = search (trade-laws, needs)
-
-add-t45 : tie.Need-add-t45
-add-t45 c = search (trade-laws, needs)
-
 bit-of-requires-2 : tie.Need-bit-of-requires-2
 bit-of-requires-2 c κs = search (trade-laws, needs)
+
+array-read-report : tie.Need-array-read-report
+array-read-report c = search (trade-laws, needs)
+
+add-report : tie.Need-add-report
+add-report c = search (trade-laws, needs)
+
+array-read-t22 : tie.Need-array-read-t22
+array-read-t22 c = search (trade-laws, needs)
+
+array-read-t37 : tie.Need-array-read-t37
+array-read-t37 c = search (trade-laws, needs)
+
+array-read-t40 : tie.Need-array-read-t40
+array-read-t40 c = search (trade-laws, needs)
+
+array-read-t43 : tie.Need-array-read-t43
+array-read-t43 c = search (trade-laws, needs)
 
 put-row-requires : tie.Need-put-row-requires
 put-row-requires c κs = search (trade-laws, needs)
@@ -59,12 +59,7 @@ add-result : tie.Need-add-result
 add-result c = search (trade-laws, needs)
 
 returns : tie.Need-returns
-returns c =
-    let stored = c .before .before in
-    let capped = stored .before .before in
-    let kept = capped .before .before in
-    trade-taken _ _ _ _ _ _ _ _ _ _ _ _ (search needs) (search needs) _ _ _ (kept .before .index .ensures) (kept .keep-snaps .ensures)
-    _ (capped .is-capped .ensures) _ _ (stored .bit-of .ensures) (c .before .bit-of2 .ensures) (c .put-row .ensures)
+returns c = search (trade-laws, needs)
 
 pub traded-spec : {M : Type 1} → statement M
 traded-spec =
@@ -76,14 +71,14 @@ traded-spec =
     keep-snaps-requires
     array-read-is-capped
     is-capped-requires
-    array-read-t22
-    array-read-t25
     bit-of-requires
-    array-read-t38
-    array-read-t41
-    array-read-t44
-    add-t45
     bit-of-requires-2
+    array-read-report
+    add-report
+    array-read-t22
+    array-read-t37
+    array-read-t40
+    array-read-t43
     put-row-requires
     add-result
     returns)
