@@ -129,12 +129,12 @@ pub lines-new : (h : Header) (e : Event) (past : History) → e .kind ≡ satisf
 unfolding linesOf
 lines-new h e past k = rw (eq-eqb (e .kind) satisfactionKind k)
 
-line-is : (u : List ℕ) (n why contracts due : ℕ) (r : Rec) (h : Header) (e : Event) (past : History) → Reads e r
-    → ((i : ℕ) → i < 8 → getD u (n * 8 + i) 0 ≡ getD (word r 0 ∷ word r 3 ∷ why ∷ contracts ∷ due ∷ 0 ∷ 0 ∷ 0 ∷ []) i 0)
+line-is : (u : List ℕ) (n why contracts due sender side there : ℕ) (r : Rec) (h : Header) (e : Event) (past : History) → Reads e r
+    → ((i : ℕ) → i < 8 → getD u (n * 8 + i) 0 ≡ getD (word r 0 ∷ word r 3 ∷ why ∷ contracts ∷ due ∷ sender ∷ side ∷ there ∷ []) i 0)
     → why ≡ reason h (caseOf past e) → contracts ≡ customers (caseOf past e) → due ≡ claim h (caseOf past e)
     → lineAt u n ≡ lineOf h past n e
 unfolding lineOf
-line-is u n why contracts due r h e past rd here a b c =
+line-is u n why contracts due sender side there r h e past rd here a b c =
     rw (
       here 0 (omega arith),
       here 1 (omega arith),
@@ -241,7 +241,7 @@ module _ (r : Rec) (home exchanges close : ℕ) (tr sn : List ℕ) (trades : ℕ
     claim-small : due ≤ 100000
     claim-small = omega (arith, claim-at-most-size why (word r 3) (k .customers) (getD tr (m * 8 + 1) 0), pl .size, ed)
 
-    pub order-fileable : Fileable cl (word r 0 ∷ word r 3 ∷ why ∷ k .customers ∷ due ∷ 0 ∷ 0 ∷ 0 ∷ []) n m
+    pub order-fileable : Fileable cl (word r 0 ∷ word r 3 ∷ why ∷ k .customers ∷ due ∷ word r 1 ∷ k .side ∷ k .there ∷ []) n m
     unfolding manyOf sumOf
     order-fileable =
         record {
@@ -253,7 +253,7 @@ module _ (r : Rec) (home exchanges close : ℕ) (tr sn : List ℕ) (trades : ℕ
           long = fi .long;
         }
 
-    module _ (cl2 : List ℕ) (f : Filed cl cl2 (word r 0 ∷ word r 3 ∷ why ∷ k .customers ∷ due ∷ 0 ∷ 0 ∷ 0 ∷ []) n m) where
+    module _ (cl2 : List ℕ) (f : Filed cl cl2 (word r 0 ∷ word r 3 ∷ why ∷ k .customers ∷ due ∷ word r 1 ∷ k .side ∷ k .there ∷ []) n m) where
       line-kept : (j : ℕ) → j < n → lineAt cl2 j ≡ lineAt cl j
       line-kept j hj =
           let low : j < 512 = omega (arith, fi .few) in
@@ -337,7 +337,7 @@ module _ (r : Rec) (home exchanges close : ℕ) (tr sn : List ℕ) (trades : ℕ
             why (k .customers) (word r 3) why-is contracts-are (sym (rd .fields 3))
 
         newest-line : lineAt cl2 n ≡ lineOf h past n e
-        newest-line = line-is cl2 n why (k .customers) due r h e past rd (f .here) why-is contracts-are due-is
+        newest-line = line-is cl2 n why (k .customers) due (word r 1) (k .side) (k .there) r h e past rd (f .here) why-is contracts-are due-is
 
         all-lines : linesOf h (e ∷ past) ≡ linesOf h past ++ (lineOf h past n e ∷ [])
         all-lines =

@@ -1,5 +1,6 @@
 -- The table of Satisfaction Orders: a row of eight words for each (trade, size, reason, customer contracts, claim), and behind them
--- for each trade the numbers of its lines in their order, how many they are, and the sum of their claims.
+-- for each trade the numbers of its lines in their order, how many they are, and the sum of their claims. The row's last three words
+-- (sender, side traded through, price there) are for a clerk: no verdict looks at them.
 use mathlib.Core.Path.{_≡_}
 use mathlib.Core.List.{List, _∷_, map}
 use Prim.Native.Nat.{ℕ, _+_, _*_, _<_, _≤_}

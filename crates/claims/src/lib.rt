@@ -43,6 +43,13 @@ impl Line {
 
     pub const CLAIM: usize = 4;
 
+    // For a clerk, and no verdict looks at them: the sender, which of its sides was traded through, and the price there.
+    pub const SENDER: usize = 5;
+
+    pub const SIDE: usize = 6;
+
+    pub const THERE: usize = 7;
+
     // Where the trades' rows of numbers begin, and those of sums.
     pub const NUMBERS: usize = 512;
 
@@ -263,9 +270,16 @@ fn claimed(
     let y = rows::index(row[1]) - 1;
     let k = facts_at(tr, sn, m, y, seat.home, seat.close, row[2], r.time);
     let customers = k.customers;
+    let side = k.side;
+    let there = k.there;
     let why = reason_of(k);
     let claim = claim_of(why, row[3], customers, tr[m * 8 + Kept::SIZE]);
-    file_line(cl, n, m, [row[0], row[3], why, customers, claim, 0, 0, 0]);
+    file_line(
+        cl,
+        n,
+        m,
+        [row[0], row[3], why, customers, claim, row[1], side, there],
+    );
     n + 1
 }
 

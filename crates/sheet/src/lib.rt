@@ -67,7 +67,7 @@ fn cancelled(size: u32, filled: u32) -> u32
 }
 
 // "A sheet line: reason, filled, cancelled."
-fn own_line(cl: &[u32; 6144], fills: &[u32; 512], i: usize) -> [u32; 3]
+pub fn own_line(cl: &[u32; 6144], fills: &[u32; 512], i: usize) -> [u32; 3]
     requires { ⌜ i < mostSatisfactionOrders ⌝ }
     ensures { λ r. ⌜ r ≡ threeAt (now (cl .entry)) (now (fills .entry)) i ⌝ }
 {

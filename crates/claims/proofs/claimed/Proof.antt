@@ -52,11 +52,14 @@ element-copy-out-claim-of c = search (line-laws, needs)
 claim-of-requires : tie.Need-claim-of-requires
 claim-of-requires c κs = search (line-laws, needs)
 
-array-read-t17 : tie.Need-array-read-t17
-array-read-t17 c = search (line-laws, needs)
+array-read-t19 : tie.Need-array-read-t19
+array-read-t19 c = search (line-laws, needs)
 
-array-read-t29 : tie.Need-array-read-t29
-array-read-t29 c = search (line-laws, needs)
+array-read-t31 : tie.Need-array-read-t31
+array-read-t31 c = search (line-laws, needs)
+
+array-read-t40 : tie.Need-array-read-t40
+array-read-t40 c = search (line-laws, needs)
 
 file-line-requires : tie.Need-file-line-requires
 file-line-requires c κs =
@@ -91,8 +94,9 @@ claimed-spec =
     mul-claim-of-2
     element-copy-out-claim-of
     claim-of-requires
-    array-read-t17
-    array-read-t29
+    array-read-t19
+    array-read-t31
+    array-read-t40
     file-line-requires
     add-result
     returns)
