@@ -6,7 +6,6 @@ use lent::Lent;
 use libc::STDIN_FILENO;
 use words::Numbers;
 
-mod entries;
 mod lent;
 mod words;
 
@@ -20,6 +19,12 @@ impl Question {
     const MOST: usize = 131072;
 
     const JOURNAL: u8 = 1;
+
+    const DAY: u8 = 2;
+
+    const SHEET: u8 = 3;
+
+    const CHECK: u8 = 4;
 
     const TOTALS: u8 = 5;
 
@@ -39,8 +44,6 @@ impl Reply {
     const HEAD: usize = 13;
 
     const UNKNOWN_OP: u64 = 99 * Answer::REFUSAL_UNIT;
-
-    const WRONG_LENGTH: u64 = 98 * Answer::REFUSAL_UNIT;
 }
 
 fn least(a: u64, b: usize) -> usize
@@ -82,48 +85,68 @@ fn in_bytes(coded: u64, long: bool) -> u64 {
     if long { answer.low * 8 } else { answer.low * 4 }
 }
 
+fn put_totals(a: &[u8], sums: &mut [u64; Lent::LONGS]) -> u64 {
+    desk::hasurenta_totals(a, sums)
+}
+
 fn totals(a: &[u8]) -> bool {
     let mut sums = [Lent::LONG; Lent::LONGS];
-    let coded = entries::totals(a, &mut sums);
+    let coded = put_totals(a, &mut sums);
     let mut out = [0u8; 8 * Lent::LONGS];
     lent::put_longs(&sums, &mut out);
     say(in_bytes(coded, true), &out)
 }
 
-fn read_record(row: &[u32; Numbers::MOST], n: usize, b: &[u8]) -> bool {
+fn put_record(numbers: &[u32], b: &[u8], record: &mut [u32; Lent::WORDS]) -> u64 {
+    desk::hasurenta_read_record(numbers, b, record)
+}
+
+fn read_record(numbers: &[u32], b: &[u8]) -> bool {
     let mut record = [Lent::WORD; Lent::WORDS];
-    let coded = entries::read_record(row, n, b, &mut record);
+    let coded = put_record(numbers, b, &mut record);
     let mut out = [0u8; 4 * Lent::WORDS];
     lent::put_words(&record, &mut out);
     say(in_bytes(coded, false), &out)
 }
 
-// The entries that are given numbers.
+// The entries that are given numbers. They refuse an A that is no row of words as they refuse no numbers.
 fn numbered(op: u8, a: &[u8], b: &[u8], out: &mut [u8]) -> bool {
     let mut row = [0u32; Numbers::MOST];
-    if !words::numbers_of(a, &mut row) {
-        return say(Reply::WRONG_LENGTH, out);
-    }
-    with_numbers(op, &row, a.len() / 4, b, out)
+    let n = words::numbers_of(a, &mut row);
+    of_row(op, &row, n, b, out)
 }
 
-fn with_numbers(op: u8, row: &[u32; Numbers::MOST], n: usize, b: &[u8], out: &mut [u8]) -> bool {
+fn of_row(op: u8, row: &[u32; Numbers::MOST], n: usize, b: &[u8], out: &mut [u8]) -> bool {
+    first_numbers(op, row, n, b, out)
+}
+
+fn first_numbers(op: u8, row: &[u32], n: usize, b: &[u8], out: &mut [u8]) -> bool {
+    if row.len() < n {
+        return false;
+    }
+    with_numbers(op, &row[..n], b, out)
+}
+
+fn with_numbers(op: u8, numbers: &[u32], b: &[u8], out: &mut [u8]) -> bool {
     if op == Question::READ_RECORD {
-        return read_record(row, n, b);
+        return read_record(numbers, b);
     }
     if op == Question::WRITE_HEADER {
-        let coded = entries::write_header(row, n, out);
+        let coded = desk::hasurenta_write_header(numbers, out);
         return say(coded, out);
     }
-    let coded = entries::write_record(row, n, out);
+    let coded = desk::hasurenta_write_record(numbers, out);
     say(coded, out)
 }
 
 // The entries that are given a journal and answer in bytes.
-fn entry(op: u8, a: &[u8], out: &mut [u8]) -> u64 {
+fn entry(op: u8, a: &[u8], b: &[u8], out: &mut [u8]) -> u64 {
     match op {
-        Question::JOURNAL => entries::check(a),
-        Question::REWRITE => entries::rewrite(a, out),
+        Question::JOURNAL => desk::hasurenta_journal(a),
+        Question::DAY => desk::hasurenta_day(a, out),
+        Question::SHEET => desk::hasurenta_sheet(a, out),
+        Question::CHECK => desk::hasurenta_check(a, b),
+        Question::REWRITE => desk::hasurenta_rewrite(a, out),
         _ => Reply::UNKNOWN_OP,
     }
 }
@@ -134,7 +157,7 @@ fn answer(op: u8, a: &[u8], b: &[u8], out: &mut [u8]) -> bool {
         Question::TOTALS => totals(a),
         Question::WRITE_HEADER..=Question::READ_RECORD => numbered(op, a, b, out),
         _ => {
-            let coded = entry(op, a, out);
+            let coded = entry(op, a, b, out);
             say(coded, out)
         }
     }

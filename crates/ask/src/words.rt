@@ -5,7 +5,7 @@ pub struct Numbers;
 
 impl Numbers {
     // as many as an entry takes at most
-    pub const MOST: usize = 30;
+    pub const MOST: usize = desk::Numbers::RECORD;
 }
 
 fn wide(x: u8) -> u32
@@ -39,18 +39,18 @@ pub fn put_word(b: &mut [u8], at: usize, x: u64) {
     b[at + 3] = (x / 16777216 % 256) as u8;
 }
 
-// The words of A; false where A is no row of words that an entry may take.
-pub fn numbers_of(a: &[u8], numbers: &mut [u32; Numbers::MOST]) -> bool {
+// How many words A is, and they themselves; none where A is no row of words that an entry may take.
+pub fn numbers_of(a: &[u8], numbers: &mut [u32; Numbers::MOST]) -> usize {
     if a.len() % 4 != 0 {
-        return false;
+        return 0;
     }
     if a.len() > 4 * Numbers::MOST {
-        return false;
+        return 0;
     }
     let mut i: usize = 0;
     while i < a.len() / 4 {
         numbers[i] = word_at(a, 4 * i);
         i += 1;
     }
-    true
+    i
 }

@@ -66,7 +66,7 @@ writer-gives x before after w e r g =
       lent = bytes-of-left w after ∙ ap (λ (l : Left). l .bytes) e ∙ leaves-lent x before;
     }
 
-gives-refusal : (x : Answer (List ℕ)) (n p : ℕ) → x ≡ refused n p → (before : List ℕ) (r : ℕ) → r ≡ codeOf (refused n p) → Gives x before r before
+pub gives-refusal : (x : Answer (List ℕ)) (n p : ℕ) → x ≡ refused n p → (before : List ℕ) (r : ℕ) → r ≡ codeOf (refused n p) → Gives x before r before
 unfolding lentAfter _>>=_
 gives-refusal x n p e before r g = record { code = g ∙ rw e; lent = rw e }
 

@@ -1,17 +1,24 @@
 // The desk's functions for other languages: slices in, lent memory, one number out. include/hasurenta.h declares them.
 ghost use mathlib.Core.Path.{_≡_};
 ghost use mathlib.Core.List.{[], _∷_};
+ghost use Prim.Native.Nat.{_%_, _≤_};
 ghost use lib.ListN.{length};
 ghost use Rattle.rules.specs.Basics.{Answer, refused, ok};
 ghost use Rattle.rules.specs.Journal.{journal};
 ghost use Rattle.rules.specs.SheetCheck.{checkSheet};
 ghost use Rattle.rules.specs.Writing.{into, rewriteJournal, writeSheet, writeDay};
-ghost use Rattle.desk.specs.Exports.{codeOf, unwritten, Gives, writeTotals, rewrittenAs};
+ghost use Rattle.text.specs.Lent.{asAnswer};
+ghost use Rattle.header.specs.Head.{firstWords};
+ghost use Rattle.journal.specs.Entries.{Copied};
+ghost use Rattle.desk.specs.Exports.{refusalUnit, codeOf, unwritten, Gives, writeTotals, rewrittenAs};
+ghost use Rattle.desk.specs.Records.{wordsAt, headFrom, writeHeaderFrom, writeRecordFrom, readRecordFrom};
 use checker::Checked;
+use header::Head;
 use journal::DayTotals;
 use journal::Rewritten;
 use journal::Verdict;
 use rows::Refusal;
+use text::Written;
 
 pub struct Code;
 
@@ -103,4 +110,150 @@ pub extern "C" fn hasurenta_rewrite(j: &[u8], out: &mut [u8]) -> u64
     ensures { λ r. ⌜ Gives (rewriteJournal (now (j .entry)) (length (now (out .entry)))) (now (out .entry)) r (now (out .exit)) ⌝ }
 {
     coded(journal::rewrite(j, out))
+}
+
+// How many numbers the functions below take.
+pub struct Numbers;
+
+impl Numbers {
+    // home, N, close, 16 sizes
+    pub const HEADER: usize = 19;
+
+    // and the time so far
+    pub const READING: usize = 20;
+
+    // and kind, milliseconds, 8 fields
+    pub const RECORD: usize = 30;
+
+    // the refusal of more or fewer
+    pub const WRONG_COUNT: u32 = 98;
+}
+
+fn sizes_of(numbers: &[u32]) -> [u32; 16]
+    requires { ⌜ 19 ≤ length (now numbers) ⌝ }
+    ensures { λ r. ⌜ r ≡ wordsAt 3 16 (now (numbers .entry)) ⌝ }
+{
+    let mut sizes = [0u32; 16];
+    let mut i: usize = 0;
+    while i < 16 {
+        sizes[i] = numbers[3 + i];
+        i += 1;
+    }
+    sizes
+}
+
+fn head_of(numbers: &[u32]) -> Head
+    requires { ⌜ 19 ≤ length (now numbers) ⌝ }
+    ensures { λ r. ⌜ r ≡ headFrom (now (numbers .entry)) ⌝ }
+{
+    let sizes = sizes_of(numbers);
+    Head {
+        home: numbers[0],
+        exchanges: numbers[1],
+        close: numbers[2],
+        sizes,
+    }
+}
+
+fn fields_of(numbers: &[u32]) -> [u32; 8]
+    requires { ⌜ 30 ≤ length (now numbers) ⌝ }
+    ensures { λ r. ⌜ r ≡ wordsAt 22 8 (now (numbers .entry)) ⌝ }
+{
+    let mut fields = [0u32; 8];
+    let mut i: usize = 0;
+    while i < 8 {
+        fields[i] = numbers[22 + i];
+        i += 1;
+    }
+    fields
+}
+
+fn written(w: Written) -> u64
+    ensures { λ r. ⌜ r ≡ codeOf (asAnswer w) ⌝ }
+{
+    match w {
+        Written::To(n) => n as u64 % Code::UNIT,
+        Written::Refused(no) => refusal(no, 0),
+    }
+}
+
+#[no_mangle]
+pub extern "C" fn hasurenta_write_header(numbers: &[u32], out: &mut [u8]) -> u64
+    ensures { λ r. ⌜ Gives (writeHeaderFrom (now (numbers .entry)) (length (now (out .entry)))) (now (out .entry)) r (now (out .exit)) ⌝ }
+{
+    if numbers.len() != Numbers::HEADER {
+        return refusal(Numbers::WRONG_COUNT, 0);
+    }
+    let head = head_of(numbers);
+    written(header::write_header(out, head))
+}
+
+#[no_mangle]
+pub extern "C" fn hasurenta_write_record(numbers: &[u32], out: &mut [u8]) -> u64
+    ensures { λ r. ⌜ Gives (writeRecordFrom (now (numbers .entry)) (length (now (out .entry)))) (now (out .entry)) r (now (out .exit)) ⌝ }
+{
+    if numbers.len() != Numbers::RECORD {
+        return refusal(Numbers::WRONG_COUNT, 0);
+    }
+    let head = head_of(numbers);
+    let fields = fields_of(numbers);
+    written(alone::write_record(out, head, numbers[19], numbers[20], numbers[21], fields))
+}
+
+fn copy(words: &[u32], out: &mut [u32])
+    requires { ⌜ length (now words) ≤ length (now out) ⌝ }
+    ensures { λ _. ⌜ Copied (now (words .entry)) (now (out .entry)) (now (out .exit)) ⌝ }
+{
+    let mut i: usize = 0;
+    while i < words.len() {
+        out[i] = words[i];
+        i += 1;
+    }
+}
+
+// These words, or 9 and nothing.
+fn put_words(words: &[u32], out: &mut [u32]) -> u64
+    ensures { λ r. ⌜ Gives (into (length (now (out .entry))) (now (words .entry))) (now (out .entry)) r (now (out .exit)) ⌝ }
+{
+    if out.len() < words.len() {
+        return refusal(Refusal::OUTPUT_TOO_SHORT, 0);
+    }
+    copy(words, out);
+    words.len() as u64 % Code::UNIT
+}
+
+fn words_of(used: usize, kind: u32, elapsed: u32, row: [u32; 8]) -> [u32; 11]
+    ensures { λ r. ⌜ r ≡ used % refusalUnit ∷ kind ∷ elapsed ∷ firstWords 8 row ⌝ }
+{
+    [
+        (used as u64 % Code::UNIT) as u32,
+        kind,
+        elapsed,
+        row[0],
+        row[1],
+        row[2],
+        row[3],
+        row[4],
+        row[5],
+        row[6],
+        row[7],
+    ]
+}
+
+#[no_mangle]
+pub extern "C" fn hasurenta_read_record(numbers: &[u32], bytes: &[u8], out: &mut [u32]) -> u64
+    ensures { λ r. ⌜ Gives (readRecordFrom (now (numbers .entry)) (now (bytes .entry)) (length (now (out .entry)))) (now (out .entry)) r (now (out .exit)) ⌝ }
+{
+    if numbers.len() != Numbers::READING {
+        return refusal(Numbers::WRONG_COUNT, 0);
+    }
+    let head = head_of(numbers);
+    let taken = alone::read_record(bytes, head, numbers[19]);
+    if taken.no != 0 {
+        return refusal(taken.no, taken.place);
+    }
+    let rec = taken.rec;
+    let row = rec.row;
+    let words = words_of(taken.used, rec.kind, taken.elapsed, row);
+    put_words(&words, out)
 }

@@ -1,18 +1,20 @@
 use Prim.Native.Nat.{_-_}
+use Rattle.desk.proofs.Records.{Gathering}
+use Rattle.desk.proofs.Records.{gather-laws}
 use borrow.Author.Needs.{needs}
-use Rattle.ask.proofs.entries.sizes_of.Statement.{statement}
-use Rattle.ask.proofs.entries.sizes_of.Tie as tie
-use Rattle.ask.proofs.entries.sizes_of.Reads as reads
-use Rattle.ask.proofs.entries.sizes_of.Lts as lts
+use Rattle.desk.proofs.sizes_of.Statement.{statement}
+use Rattle.desk.proofs.sizes_of.Tie as tie
+use Rattle.desk.proofs.sizes_of.Reads as reads
+use Rattle.desk.proofs.sizes_of.Lts as lts
 
 abbrev Inv-loop : tie.InvT-loop
-Inv-loop row sizes₀ i₀ sizes i = Unit {0}
+Inv-loop numbers sizes₀ i₀ sizes i = Gathering 3 16 numbers sizes i
 
 abbrev μ-loop : tie.MeasureT-loop
-μ-loop row sizes₀ i₀ sizes i = 16 - i
+μ-loop numbers sizes₀ i₀ sizes i = 16 - i
 
 loop-holds : tie.Need-loop-holds Inv-loop μ-loop
-loop-holds c = search needs
+loop-holds c = search (gather-laws, needs)
 
 add-sizes : tie.Need-add-sizes Inv-loop μ-loop
 add-sizes c = search needs
@@ -20,8 +22,8 @@ add-sizes c = search needs
 mul-sizes : tie.Need-mul-sizes Inv-loop μ-loop
 mul-sizes c = search needs
 
-element-copy-out-sizes : tie.Need-element-copy-out-sizes Inv-loop μ-loop
-element-copy-out-sizes c = search needs
+shared-slice-read-sizes : tie.Need-shared-slice-read-sizes Inv-loop μ-loop
+shared-slice-read-sizes c = search needs
 
 mul-sizes-2 : tie.Need-mul-sizes-2 Inv-loop μ-loop
 mul-sizes-2 c = search needs
@@ -36,10 +38,10 @@ loop-less : tie.Need-loop-less Inv-loop μ-loop
 loop-less c = search needs
 
 loop-again : tie.Need-loop-again Inv-loop μ-loop
-loop-again c = search needs
+loop-again c = search (gather-laws, needs)
 
 returns : tie.Need-returns Inv-loop μ-loop
-returns c = search needs
+returns c = search (gather-laws, needs)
 
 pub sizes-of-spec : {M : Type 1} → statement M
 sizes-of-spec =
@@ -50,7 +52,7 @@ sizes-of-spec =
     loop-holds
     add-sizes
     mul-sizes
-    element-copy-out-sizes
+    shared-slice-read-sizes
     mul-sizes-2
     array-write-sizes
     add-i

@@ -1,0 +1,46 @@
+-- The functions that are given a header or a record as numbers: how many they take, and what each number is.
+use mathlib.Core.List.{List, [], _∷_, map}
+use Prim.Native.Nat.{ℕ, _+_, _%_}
+use lib.ListN.{length, getD}
+use Rattle.rules.specs.Basics.{_==_, below, Answer, refused, ok, _>>=_, demand}
+use Rattle.rules.specs.Record.{Recorded}
+use Rattle.rules.specs.Writing.{noPlace, into, writeHeader, writeRecord, readRecord}
+use Rattle.numbers.specs.Rows.{pad}
+use Rattle.header.specs.Head.{asHeader}
+use Rattle.header.specs.declared.Head.{Head}
+use Rattle.alone.specs.Alone.{givenAs}
+use Rattle.desk.specs.Exports.{refusalUnit}
+
+-- the refusal of more or fewer numbers than a function takes; none of the paper's numbers
+abbrev pub wrongCount : ℕ
+wrongCount = 98
+
+-- k words from a place on
+unfoldable pub wordsAt : ℕ → ℕ → List ℕ → List ℕ
+wordsAt at k ns = map (λ i. getD ns (at + i) 0) (below k)
+
+-- the first 19 numbers: home, N, close, 16 sizes
+abbrev pub headFrom : List ℕ → Head
+headFrom ns = record { home = getD ns 0 0; exchanges = getD ns 1 0; close = getD ns 2 0; sizes = wordsAt 3 16 ns }
+
+unfoldable pub writeHeaderFrom : List ℕ → ℕ → Answer (List ℕ)
+writeHeaderFrom ns room = do
+  _ ← demand (length ns == 19) wrongCount noPlace
+  writeHeader (asHeader (headFrom ns)) room
+
+-- after those the time so far, kind, milliseconds, 8 fields
+unfoldable pub writeRecordFrom : List ℕ → ℕ → Answer (List ℕ)
+writeRecordFrom ns room = do
+  _ ← demand (length ns == 30) wrongCount noPlace
+  writeRecord (asHeader (headFrom ns)) (getD ns 19 0) (givenAs (getD ns 20 0) (getD ns 21 0) (wordsAt 22 8 ns)) room
+
+-- bytes used (a record has at most 40, so the remainder takes nothing away), kind, milliseconds, 8 fields, unused ones 0
+abbrev pub recordWords : Recorded → List ℕ
+recordWords r = r .next .place % refusalUnit ∷ r .entry .kind ∷ r .entry .elapsed ∷ pad 8 0 (r .entry .fields)
+
+-- after the header's numbers the time so far
+unfoldable pub readRecordFrom : List ℕ → List ℕ → ℕ → Answer (List ℕ)
+readRecordFrom ns bytes room = do
+  _ ← demand (length ns == 20) wrongCount noPlace
+  r ← readRecord (asHeader (headFrom ns)) (getD ns 19 0) bytes
+  into room (recordWords r)
