@@ -39,7 +39,7 @@ pub fn clock(time: u32) {
 }
 
 // Rule 6.94(b), "Exceptions to Trade-Through Liability": reasons 2 to 9 are its paragraphs.
-fn exception(why: u32) {
+fn say_exception(why: u32) -> bool {
     match why {
         2 => say(
             b"home had sent the sender an order more than 20 seconds before, by the trade neither filled in full nor followed by a worse quote (that such a quote ends the excuse is the desk's reading), 6.94(b)(2)",
@@ -56,31 +56,24 @@ fn exception(why: u32) {
             b"received more than three minutes after the report of a trade that another exchange initiated, 6.94(b)(9)",
         ),
     }
-    ;
+}
+
+fn say_reason(why: u32) -> bool {
+    match why {
+        0 => say(b"none, to be filled, 6.94(a)(2)"),
+        10 => say(b"the sender was not traded through, and so is no aggrieved party, 6.92(a)(1)"),
+        11 => say(b"its price is the trade's, and the trade is no block, 6.94(a)(2)(i)"),
+        12 => say(
+            b"its price is not the one required (for a block the trade's, otherwise the bid or offer traded through), 6.92(a)(18)",
+        ),
+        13 => say(b"no customer contracts in the bid or offer traded through, 6.94(a)(2)(ii)"),
+        _ => say_exception(why),
+    }
 }
 
 pub fn reason(why: u32) {
     told(b"  reason ", why);
     say(b": ");
-    match why {
-        0 => {
-            say(b"none, to be filled, 6.94(a)(2)");
-        }
-        10 => {
-            say(b"the sender was not traded through, and so is no aggrieved party, 6.92(a)(1)");
-        }
-        11 => {
-            say(b"its price is the trade's, and the trade is no block, 6.94(a)(2)(i)");
-        }
-        12 => {
-            say(
-                b"its price is not the one required (for a block the trade's, otherwise the bid or offer traded through), 6.92(a)(18)",
-            );
-        }
-        13 => {
-            say(b"no customer contracts in the bid or offer traded through, 6.94(a)(2)(ii)");
-        }
-        _ => exception(why),
-    }
+    say_reason(why);
     say(b"\n");
 }

@@ -9,47 +9,36 @@ use Rattle.explain.proofs.orders.Reads as orders-reads
 use Rattle.feed.proofs.refused.Reads as refused-reads
 use Rattle.survey.proofs.survey.Reads as survey-reads
 
--- src/main.rt:120:9
 returns : tie.Need-returns
 returns c = search (clerk-laws, part-laws, needs)
 
--- src/main.rt:125:26
 slice-aggregate-survey : tie.Need-slice-aggregate-survey
 slice-aggregate-survey c = search (clerk-laws, part-laws, needs)
 
--- src/main.rt:125:59
 slice-aggregate-survey-2 : tie.Need-slice-aggregate-survey-2
 slice-aggregate-survey-2 c = search (clerk-laws, part-laws, needs)
 
--- src/main.rt:125:11
 survey-requires : tie.Need-survey-requires
 survey-requires c κs = search (clerk-laws, part-laws, needs)
 
--- src/main.rt:126:29
 enum-known-no : tie.Need-enum-known-no
 enum-known-no c = search (clerk-laws, part-laws, needs)
 
--- src/main.rt:130:30
 cast-t20 : tie.Need-cast-t20
 cast-t20 c = search (clerk-laws, part-laws, needs)
 
--- src/main.rt:127:13
 refused-requires : tie.Need-refused-requires
 refused-requires c κs = search (clerk-laws, part-laws, needs)
 
--- src/main.rt:136:13
 enum-known-trades : tie.Need-enum-known-trades
 enum-known-trades c = search (clerk-laws, part-laws, needs)
 
--- src/main.rt:139:14
 orders-requires : tie.Need-orders-requires
 orders-requires c κs = search (clerk-laws, part-laws, needs)
 
--- src/main.rt:118:1
 returns-2 : tie.Need-returns-2
 returns-2 c = search (clerk-laws, part-laws, needs)
 
--- src/main.rt:118:1
 returns-3 : tie.Need-returns-3
 returns-3 c = search (clerk-laws, part-laws, needs)
 

@@ -15,51 +15,39 @@ Inv-loop cl tr trades lines fills i₀ t8 i = Unit {0}
 abbrev μ-loop : tie.MeasureT-loop
 μ-loop cl tr trades lines fills i₀ t8 i = lines - i
 
--- src/main.rt:104:5
 own-fills-requires : tie.Need-own-fills-requires Inv-loop μ-loop
 own-fills-requires c κs = search needs
 
--- src/main.rt:106:20
 slice-aggregate-say : tie.Need-slice-aggregate-say Inv-loop μ-loop
 slice-aggregate-say c = search needs
 
--- src/main.rt:106:9
 say-requires : tie.Need-say-requires Inv-loop μ-loop
 say-requires c κs = search needs
 
--- src/main.rt:109:5
 loop-holds : tie.Need-loop-holds Inv-loop μ-loop
 loop-holds c = search needs
 
--- src/main.rt:110:13
 explained-requires : tie.Need-explained-requires Inv-loop μ-loop
 explained-requires c κs = search needs
 
--- src/main.rt:111:22
 slice-aggregate-fail : tie.Need-slice-aggregate-fail Inv-loop μ-loop
 slice-aggregate-fail c = search needs
 
--- src/main.rt:111:13
 fail-requires : tie.Need-fail-requires Inv-loop μ-loop
 fail-requires c κs = search needs
 
--- src/main.rt:112:13
 returns : tie.Need-returns Inv-loop μ-loop
 returns c = search needs
 
--- src/main.rt:114:9
 add-i : tie.Need-add-i Inv-loop μ-loop
 add-i c = search needs
 
--- src/main.rt:109:5
 loop-less : tie.Need-loop-less Inv-loop μ-loop
 loop-less c = search needs
 
--- src/main.rt:109:5
 loop-again : tie.Need-loop-again Inv-loop μ-loop
 loop-again c = search needs
 
--- src/main.rt:99:1
 returns-2 : tie.Need-returns-2 Inv-loop μ-loop
 returns-2 c = search needs
 

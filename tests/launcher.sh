@@ -50,7 +50,7 @@ for text in examples/*.day; do
     expect 0 check - "$sheet" <"$journal"; wrote accepted
     expect 0 check "$journal" - <"$sheet"; wrote accepted
 done
-[ "$tried" -ge 78 ] || { what=examples; fail "only $tried tries"; }
+[ "$tried" -ge 104 ] || { what=examples; fail "only $tried tries"; }
 
 d=$work/day-d.journal
 printf '\001\002\200\320\273\033\012\012\012\012\001\350\007\002\000\156\024\017\170\024\000\003\000\000\144\014\000\000\000\000\007\350\007\000\002\156\024' >"$work/bytes"
@@ -61,6 +61,12 @@ what='sheet of Day D'
 cmp -s "$work/day-d.sheet" "$work/bytes" || fail 'not 0, 12, 8'
 expect 0 totals "$work/orders.journal"; said_nothing; wrote 'sent 25 filled 6 cancelled 12 pending 7'
 expect 0 totals <"$d"; wrote 'sent 0 filled 0 cancelled 0 pending 0'
+
+# In words: every reason, and a day without a Satisfaction Order.
+what='encode of examples/reasons.day'
+cmp -s "$work/reasons.journal" crates/explain/stdin || fail 'not the journal that explain is run on'
+expect 0 explain "$work/reasons.journal"; said_nothing; wrote_file crates/explain/stdout
+expect 0 explain <"$work/lock.journal"; wrote 'no Satisfaction Order'
 
 # From another folder, through a link, with a name that needs quoting.
 what='hasurenta day, from elsewhere'
@@ -83,7 +89,7 @@ expect 0 day "$work/header"; wrote 'event what a b c'
 # ---- refused journals and sheets
 printf '\200\000' >"$work/overlong"
 awk 'BEGIN { for (i = 0; i < 40000; i++) printf "\001" }' >"$work/long"
-for command in day totals; do
+for command in day totals explain; do
     expect 1 $command "$work/overlong"; wrote 'refused 2 at 0'; said_nothing
     expect 1 $command <"$work/empty"; wrote 'refused 2 at 0'
     expect 1 $command "$work/long"; wrote 'refused 1 at 0'
@@ -144,7 +150,7 @@ printf '  header\thome 01 exchanges 2 close 57600000 sizes 10 10 10 000000000001
 expect 0 encode "$work/text"; wrote_file "$work/header"
 
 # ---- what cannot be run
-for command in day totals sheet encode decode; do
+for command in day totals explain sheet encode decode; do
     expect 2 $command "$work/not there"; named "$work/not there"
     expect 2 $command "$work"; named "$work"
     expect 2 $command "$d" "$d"; named 'one file at most'
@@ -155,7 +161,6 @@ expect 2 check "$d" ''; wrote_nothing
 expect 2 check "$d"; named 'found 1 files'
 expect 2 check - - <"$d"; wrote_nothing
 expect 2 day <"$work"; named 'standard input: Is a directory'
-expect 2 explain; named 'explain'
 expect 2 wash; named 'wash'
 expect 2; wrote_nothing
 expect 0 --help; said_nothing
