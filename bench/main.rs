@@ -55,7 +55,7 @@ const FUNCTIONS: [Function; 6] = [
         reference: |desk| {
             answer(totals::totals(&desk.journal).map(|totals| {
                 desk.totals = [totals.sent, totals.filled, totals.cancelled, totals.pending];
-                0
+                desk.totals.len()
             }))
         },
     },

@@ -3,7 +3,8 @@
  *
  * Every function answers one number, refusal * 2^32 + place. Refusal 0 means accepted: then the low 32 bits are how many
  * elements of `out` were written, from its start, and the rest of `out` is as it was (0 for a function without `out`). Any
- * other refusal is one of document 01's table, with its place, and all of `out` is as it was.
+ * other refusal is one of document 01's table, with its place, or HASURENTA_WRONG_COUNT, and all of `out` is as it was.
+ * What each function answers is proved for every input: crates/desk/src/lib.rt has the statement over it.
  *
  * A slice is a pointer and a count of elements, and NULL with 0 is an empty one. Nothing is asked of what the slices hold
  * or how long they are. The caller's part: each pointer reaches as many elements as are counted, and `out` overlaps no
