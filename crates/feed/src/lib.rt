@@ -3,6 +3,7 @@ ghost use Prim.Native.Nat.{_<_};
 use journal::Journal;
 use libc::STDIN_FILENO;
 use libc::STDOUT_FILENO;
+use text::Written;
 
 // How much of the buffer was filled, by all of the input or by as much as there is room for; or a read failed.
 pub enum Input {
@@ -21,6 +22,9 @@ impl Room {
 
     // Three numbers of at most four bytes for each of 512 Satisfaction Orders.
     pub const OWN_SHEET: usize = 6144;
+
+    // `refused `, ten digits, ` at `, twenty digits and LF.
+    pub const REFUSAL: usize = 43;
 
     // No more of a sheet is read: the first number that can't be read or the first extra byte lies no further in than our own sheet can reach, so what is cut off here decides nothing.
     pub const SHEET_INPUT: usize = 65537;
@@ -92,12 +96,16 @@ impl Answer {
     }
 }
 
-// Sends the first n bytes of out to standard output.
-pub fn send(out: &[u8], n: usize) -> bool {
+// Sends the first n bytes of out.
+fn send_to(fd: i32, out: &[u8], n: usize) -> bool {
     if out.len() < n {
         return false;
     }
-    let sent = io::write_all(STDOUT_FILENO, &out[..n]);
+    io::write_all(fd, &out[..n])
+}
+
+pub fn send(out: &[u8], n: usize) -> bool {
+    let sent = send_to(STDOUT_FILENO, out, n);
     if !sent {
         os::fail(b"standard output");
     }
@@ -106,11 +114,12 @@ pub fn send(out: &[u8], n: usize) -> bool {
 
 // "It prints `refused 2 at 0` (number, place)"
 pub fn refused(fd: i32, answer: Answer) {
-    io::write_all(fd, b"refused ");
-    io::print_decimal(fd, answer.refusal);
-    io::write_all(fd, b" at ");
-    io::print_decimal(fd, answer.low);
-    io::write_all(fd, b"\n");
+    let mut line = [0u8; Room::REFUSAL];
+    let no = (answer.refusal % Answer::REFUSAL_UNIT) as u32;
+    let Written::To(n) = text::write_refusal(&mut line, no, answer.low as usize) else {
+        return;
+    };
+    send_to(fd, &line, n);
 }
 
 // The time so far after a record; past the day it only has to stay past it.
