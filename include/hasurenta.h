@@ -8,7 +8,8 @@
  *
  * A slice is a pointer and a count of elements, and NULL with 0 is an empty one. Nothing is asked of what the slices hold
  * or how long they are. The caller's part: each pointer reaches as many elements as are counted, and `out` overlaps no
- * other slice. Nothing is kept between calls, no memory is taken, and calls from several threads may run at once. */
+ * other slice. Nothing is kept between calls, no memory is taken but the stack (some 300 KB
+ * by hasurenta_day, 100 KB by the others), and calls from several threads may run at once. */
 #ifndef HASURENTA_H
 #define HASURENTA_H
 
