@@ -22,8 +22,7 @@ use Rattle.rules.proofs.Giving.{total}
 use Rattle.rules.proofs.OwnSheet.{rounds-give-as-many}
 use Rattle.rules.proofs.ByTrade.{line-among-its-trade, own-fill-at}
 use Rattle.number.specs.Writing.{leftBy, leftAt, writeNumber}
-use Rattle.number.specs.declared.Written as one
-use Rattle.number.specs.declared.Written.the-variants.{To as OneTo, Refused as NoneBy}
+use Rattle.text.specs.declared.Written.{Written}
 use Rattle.text.specs.declared.Written.the-variants.{To, Refused}
 use Rattle.text.specs.Lent.{Wrote, Takes}
 use Rattle.text.proofs.Lent.{wrote-none, wrote-then, writes-short, writes-all}
@@ -100,11 +99,11 @@ pub ruleset width-laws = (summing-none, summed-all, line-known, three-there, sum
 
 -- ---- a number, and a line of three
 
-module _ (s : List ℕ) (at x : ℕ) (r : one.Written) (d : List ℕ) (e : leftBy r d ≡ leftAt at (writeNumber x (length s - at)) s) (long : length d ≡ length s) (n : ℕ) where
-  pub puts-number : r ≡ OneTo n → PutsNumber s at x d n
+module _ (s : List ℕ) (at x : ℕ) (r : Written) (d : List ℕ) (e : leftBy r d ≡ leftAt at (writeNumber x (length s - at)) s) (long : length d ≡ length s) (n : ℕ) where
+  pub puts-number : r ≡ To n → PutsNumber s at x d n
   puts-number g = record { so = λ h room. number-put s at x h room r d e n g; long = long }
 
-  pub puts-no-number : r ≡ NoneBy n → PutsNumber s at x d at
+  pub puts-no-number : r ≡ Refused n → PutsNumber s at x d at
   puts-no-number g = record { so = λ h room. number-refused s at x h room r d e n g; long = long }
 
 module _ (s : List ℕ) (at : ℕ) (row d1 : List ℕ) (p1 : ℕ) (a : PutsNumber s at (getD row 0 0) d1 p1) (d2 : List ℕ) (p2 : ℕ) (b : PutsNumber d1 p1 (getD row 1 0) d2 p2)

@@ -95,7 +95,7 @@ fn sheet_width(cl: &[u32; 6144], fills: &[u32; 512], n: usize) -> usize
 fn put_number(out: &mut [u8], at: usize, x: u32) -> usize
     ensures { λ r. ⌜ PutsNumber (now (out .entry)) at x (now (out .exit)) r ⌝ }
 {
-    let number::Written::To(next) = number::write_at(out, at, x) else {
+    let Written::To(next) = number::write_at(out, at, x) else {
         return at;
     };
     next

@@ -7,7 +7,7 @@ ghost use Rattle.text.specs.Lent.{Wrote, Takes, Writes};
 ghost use Rattle.text.specs.Lines.{pairOf, lineOf, fieldOf, headOf, tailOf, numberOf, placeOf};
 use rows::Refusal;
 
-// What a writer answers: how many bytes it wrote, or a refusal's number.
+// What a writer answers: the place after its last byte, or a refusal's number.
 pub enum Written {
     To(usize),
     Refused(u32),
