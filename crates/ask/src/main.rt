@@ -4,6 +4,7 @@ use feed::Answer;
 use feed::Input;
 use lent::Lent;
 use libc::STDIN_FILENO;
+use rows::Code;
 use words::Numbers;
 
 mod lent;
@@ -43,7 +44,7 @@ struct Reply;
 impl Reply {
     const HEAD: usize = 13;
 
-    const UNKNOWN_OP: u64 = 99 * Answer::REFUSAL_UNIT;
+    const UNKNOWN_OP: u64 = 99 * Code::UNIT;
 }
 
 fn least(a: u64, b: usize) -> usize

@@ -17,15 +17,9 @@ use header::Head;
 use journal::DayTotals;
 use journal::Rewritten;
 use journal::Verdict;
+use rows::Code;
 use rows::Refusal;
 use text::Written;
-
-pub struct Code;
-
-impl Code {
-    // one refusal; places and counts lie below it
-    pub const UNIT: u64 = 4294967296;
-}
 
 fn refusal(no: u32, place: usize) -> u64
     ensures { λ r. ⌜ r ≡ codeOf (refused no place) ⌝ }

@@ -3,6 +3,9 @@ ghost use Prim.Native.Nat.{_<_};
 use journal::Journal;
 use libc::STDIN_FILENO;
 use libc::STDOUT_FILENO;
+use number::Number;
+use numbered::SatisfactionOrder;
+use rows::Code;
 use text::Written;
 
 // How much of the buffer was filled, by all of the input or by as much as there is room for; or a read failed.
@@ -20,8 +23,8 @@ impl Room {
     // One byte more is read than a journal may have: an entry that is given it refuses the journal as too long.
     pub const JOURNAL_INPUT: usize = Room::JOURNAL + 1;
 
-    // Three numbers of at most four bytes for each of 512 Satisfaction Orders.
-    pub const OWN_SHEET: usize = 6144;
+    // Three numbers for each Satisfaction Order.
+    pub const OWN_SHEET: usize = 3 * Number::MOST_GROUPS * SatisfactionOrder::MOST;
 
     // `refused `, ten digits, ` at `, twenty digits and LF.
     pub const REFUSAL: usize = 43;
@@ -84,14 +87,12 @@ pub struct Answer {
 }
 
 impl Answer {
-    pub const REFUSAL_UNIT: u64 = 4294967296;
-
     pub fn of(coded: u64) -> Answer
         ensures { λ r. ⌜ r .low < 4294967296 ⌝ }
     {
         Answer {
-            refusal: coded / Answer::REFUSAL_UNIT,
-            low: coded % Answer::REFUSAL_UNIT,
+            refusal: coded / Code::UNIT,
+            low: coded % Code::UNIT,
         }
     }
 }
@@ -115,7 +116,7 @@ pub fn send(out: &[u8], n: usize) -> bool {
 // "It prints `refused 2 at 0` (number, place)"
 pub fn refused(fd: i32, answer: Answer) {
     let mut line = [0u8; Room::REFUSAL];
-    let no = (answer.refusal % Answer::REFUSAL_UNIT) as u32;
+    let no = (answer.refusal % Code::UNIT) as u32;
     let Written::To(n) = text::write_refusal(&mut line, no, answer.low as usize) else {
         return;
     };
