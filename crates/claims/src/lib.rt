@@ -7,6 +7,8 @@ ghost use Rattle.rules.specs.Reasons.{threeMinutes};
 ghost use Rattle.orders.specs.Orders.{Headed};
 ghost use Rattle.claims.specs.Reasons.{laterThan, lateAt, requiredOf, tradeReason, lateReason, priceReason, reasonOf, claimOf, factsOf};
 ghost use Rattle.claims.specs.Lines.{manyOf, Filing, Fileable, Filed, Placed, ClaimsStep, Findable, ManyIs, NumberIs, Gathered, DueIs};
+use numbered::SatisfactionOrder;
+use numbered::Trade;
 use prices::Side;
 use quotes::Status;
 use rows::Closing;
@@ -51,9 +53,9 @@ impl Line {
     pub const THERE: usize = 7;
 
     // Where the trades' rows of numbers begin, and those of sums.
-    pub const NUMBERS: usize = 512;
+    pub const NUMBERS: usize = SatisfactionOrder::MOST;
 
-    pub const SUMS: usize = 640;
+    pub const SUMS: usize = Line::NUMBERS + Trade::MOST;
 }
 
 // What a Satisfaction Order is judged by: of its sender at the trade the side traded through, the price and the customer
