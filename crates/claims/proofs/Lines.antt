@@ -23,7 +23,7 @@ use Rattle.orders.specs.Orders.{Headed, Heads}
 use Rattle.trades.specs.Trades.{Traded}
 use Rattle.claims.specs.declared.Facts.{Facts}
 use Rattle.claims.specs.Reasons.{reasonOf, claimOf, factsOf}
-use Rattle.claims.specs.Lines.{lineAt, linesFrom, numberAt, manyOf, sumOf, tradeLines, Lined, Filing, Fileable, Filed, Placed, Placeable, ClaimsStep}
+use Rattle.claims.specs.Lines.{lineAt, linesFrom, numberAt, manyOf, sumOf, tradeLines, Lined, Filing, Fileable, Filed, Placed, ClaimsStep}
 use Rattle.claims.proofs.Judge.{reason-is, customers-are, claim-is}
 
 -- ---- one line more at the end
@@ -224,31 +224,44 @@ module _ (cl c1 c3 row : List ℕ) (n m k w : ℕ) (able : Fileable cl row n m) 
       first-word : (l : List ℕ) (q : ℕ) → getD l (q * 8) 0 ≡ getD l (q * 8 + 0) 0
       first-word l q = ap (λ (j : ℕ). getD l j 0) (omega arith)
 
-module _ (r : Rec) (home exchanges close : ℕ) (tr sn : List ℕ) (trades : ℕ) (cl : List ℕ) (n : ℕ) (ht : trades ≤ 128) (ok : Headed exchanges home)
-    (pl : Placeable r cl trades exchanges n) (fi : Filing cl n)
-    (m : ℕ) (em : (m ≡ word r 0) × (m < 4294967296)) (x : ℕ) (ex : (x ≡ word r 1) × (x < 4294967296)) where
-  pub trade-known : m < 128
-  trade-known = omega (arith, em .0, pl .trade)
+-- the trade and the sender that a Satisfaction Order names
+module _ (r : Rec) (cl : List ℕ) (trades exchanges n : ℕ) (pl : Placed r cl trades exchanges n) (kind : r .kind ≡ satisfactionKind) where
+  module _ (ht : trades ≤ 128) (m : ℕ) (em : (m ≡ word r 0) × (m < 4294967296)) where
+    pub trade-known : m < 128
+    trade-known = omega (arith, em .0, pl .trade kind)
 
-  pub sender-known : x - 1 < 8
-  sender-known = omega (arith, ex .0, pl .from-one, pl .to-n, ok .few)
+    pub trade-size-known : m * 8 + 1 < 1024
+    trade-size-known = omega (arith, trade-known)
+
+  module _ (x : ℕ) (ex : (x ≡ word r 1) × (x < 4294967296)) where
+    pub sender-from-one : 1 ≤ x
+    sender-from-one = omega (arith, ex .0, pl .fields kind .sender .from-one)
+
+    pub sender-known : (home : ℕ) → Headed exchanges home → x - 1 < 8
+    sender-known home ok = omega (arith, sender-from-one, ex .0, pl .fields kind .sender .to-n, ok .few)
+
+module _ (r : Rec) (home exchanges close : ℕ) (tr sn : List ℕ) (trades : ℕ) (cl : List ℕ) (n : ℕ) (ht : trades ≤ 128) (ok : Headed exchanges home)
+    (pl : Placed r cl trades exchanges n) (kind : r .kind ≡ satisfactionKind) (fi : Filing cl n)
+    (m : ℕ) (em : (m ≡ word r 0) × (m < 4294967296)) (x : ℕ) (ex : (x ≡ word r 1) × (x < 4294967296)) where
+  trade-low : m < 128
+  trade-low = trade-known r cl trades exchanges n pl kind ht m em
 
   eighth-left : manyOf cl m < 8
-  eighth-left = rw (em .0) (pl .first)
+  eighth-left = rw (em .0) (pl .first kind)
 
   module _ (k : Facts) (ek : k ≡ factsOf tr sn m (x - 1) home close (word r 2) (r .time)) (why : ℕ) (ew : why ≡ reasonOf k)
       (due : ℕ) (ed : due ≡ claimOf why (word r 3) (k .customers) (getD tr (m * 8 + 1) 0)) where
     claim-small : due ≤ 100000
-    claim-small = omega (arith, claim-at-most-size why (word r 3) (k .customers) (getD tr (m * 8 + 1) 0), pl .size, ed)
+    claim-small = omega (arith, claim-at-most-size why (word r 3) (k .customers) (getD tr (m * 8 + 1) 0), pl .fields kind .size, ed)
 
     pub order-fileable : Fileable cl (word r 0 ∷ word r 3 ∷ why ∷ k .customers ∷ due ∷ word r 1 ∷ k .side ∷ k .there ∷ []) n m
     unfolding manyOf sumOf
     order-fileable =
         record {
-          line = pl .room;
-          trade = trade-known;
+          line = pl .room kind;
+          trade = trade-low;
           eighth = eighth-left;
-          sum-small = omega (arith, fi .small m trade-known, fi .few);
+          sum-small = omega (arith, fi .small m trade-low, fi .few);
           claim-small = claim-small;
           long = fi .long;
         }
@@ -276,9 +289,9 @@ module _ (r : Rec) (home exchanges close : ℕ) (tr sn : List ℕ) (trades : ℕ
                 (λ q. omega (arith, f .many-other a (eqb-false a m q), fi .eight a ha));
             earlier = λ a i ha hi. byTest (eqb a m) (λ q. new a i ha hi (eqb-true a m q)) (λ q. other a i ha hi (eqb-false a m q));
             small =
-                λ a ha. byTest (eqb a m) (λ q. rw (eqb-true a m q) (omega (arith, f .sum-here, claim-small, fi .small m trade-known)))
+                λ a ha. byTest (eqb a m) (λ q. rw (eqb-true a m q) (omega (arith, f .sum-here, claim-small, fi .small m trade-low)))
                 (λ q. omega (arith, f .sum-other a (eqb-false a m q), fi .small a ha));
-            few = omega (arith, pl .room);
+            few = omega (arith, pl .room kind);
             long = f .same-length ∙ fi .long;
           }
         where
@@ -294,26 +307,26 @@ module _ (r : Rec) (home exchanges close : ℕ) (tr sn : List ℕ) (trades : ℕ
               (byTest (eqb i (manyOf cl m)) (λ q. rw (eqb-true i (manyOf cl m) q) (omega (arith, f .number-here)))
               (λ q. let ne = eqb-false i (manyOf cl m) q in
               let lt : i < manyOf cl m = omega (arith, ne) in
-              omega (arith, f .number-other m i trade-known (omega (arith, eighth-left)) (λ z1 z2. ne z2), fi .earlier m i trade-known lt)))
+              omega (arith, f .number-other m i trade-low (omega (arith, eighth-left)) (λ z1 z2. ne z2), fi .earlier m i trade-low lt)))
 
       -- ---- beside the history
 
       module _ (h : Header) (sizes : List ℕ) (e : Event) (past : History) (is : Heads h exchanges home sizes) (ec : h .close ≡ close) (rd : Reads e r)
           (tv : Traded h past tr sn trades) (held : Lined h past cl n) where
         sat : e .kind ≡ satisfactionKind
-        sat = rd .kind ∙ pl .kind
+        sat = rd .kind ∙ kind
 
         names-trade : field e 0 ≡ m
         names-trade = sym (rd .fields 0) ∙ sym (em .0)
 
         names-sender : field e 1 ≡ x - 1 + 1
-        names-sender = sym (rd .fields 1) ∙ sym (ex .0) ∙ omega (arith, ex .0, pl .from-one)
+        names-sender = sym (rd .fields 1) ∙ sym (ex .0) ∙ omega (arith, sender-from-one r cl trades exchanges n pl kind x ex)
 
         known : m < trades
-        known = omega (arith, em .0, pl .trade)
+        known = omega (arith, em .0, pl .trade kind)
 
         sends : x - 1 < h .exchanges
-        sends = let z = is .exchanges in omega (arith, ex .0, pl .from-one, pl .to-n)
+        sends = let z = is .exchanges in omega (arith, ex .0, pl .fields kind .sender .from-one, pl .fields kind .sender .to-n)
 
         home-in : home ≤ h .exchanges
         home-in = let z = is .exchanges in omega (arith, ok .to-n)
@@ -365,14 +378,14 @@ module _ (r : Rec) (home exchanges close : ℕ) (tr sn : List ℕ) (trades : ℕ
           where
             its-lines : a ≡ m → tradeLines cl2 m (manyOf cl2 m) ≡ ofTrade m (linesOf h past) ++ (lineOf h past n e ∷ [])
             its-lines z =
-                rw (f .many-here) (trade-lines-more cl2 m (manyOf cl m) ∙ rw (old-lines m trade-known, f .number-here, newest-line))
+                rw (f .many-here) (trade-lines-more cl2 m (manyOf cl m) ∙ rw (old-lines m trade-low, f .number-here, newest-line))
 
         sums-after : (a : ℕ) → a < 128 → sumOf cl2 a ≡ sum (claimsOf (ofTrade a (linesOf h (e ∷ past))))
         sums-after a ha =
             rw (all-lines, sum-more a (linesOf h past) (lineOf h past n e))
             (byTest (eqb (field e 0) a)
             (λ q. let z : a ≡ m = sym (eqb-true (field e 0) a q) ∙ names-trade in
-            line-words h past n e a _ _ (rw z (f .sum-here ∙ rw (held .sums m trade-known, due-is))) q)
+            line-words h past n e a _ _ (rw z (f .sum-here ∙ rw (held .sums m trade-low, due-is))) q)
             (λ q. other-line h past n e a _ _ (f .sum-other a (λ z. eqb-false (field e 0) a q (names-trade ∙ sym z)) ∙ held .sums a ha) q))
 
         lined-after : Lined h (e ∷ past) cl2 (n + 1)
@@ -393,20 +406,6 @@ no-order r home exchanges close tr sn trades cl n fi ne =
     record {
       filing = fi;
       so = λ h sizes e past is ec rd tv held. lines-alone h past cl n e (λ z. ne (sym (rd .kind) ∙ z)) held;
-    }
-
-pub order-placeable : (r : Rec) (cl : List ℕ) (trades exchanges n : ℕ) → Placed r cl trades exchanges n → r .kind ≡ satisfactionKind
-    → Placeable r cl trades exchanges n
-order-placeable r cl trades exchanges n p k =
-    let g = p .fields k in
-    record {
-      kind = k;
-      from-one = g .sender .from-one;
-      to-n = g .sender .to-n;
-      size = g .size;
-      trade = p .trade k;
-      first = p .first k;
-      room = p .room k;
     }
 
 -- a record that the reader has passed, and 7 and 8
@@ -433,4 +432,4 @@ record-placed exchanges home r cl trades n ok known eighth room =
       room = room;
     }
 
-pub ruleset line-laws = (facts-read, line-filed, trade-known, sender-known, order-fileable, order-taken, no-order, order-placeable)
+pub ruleset line-laws = (facts-read, line-filed, trade-known, trade-size-known, sender-from-one, sender-known, order-taken, no-order)

@@ -93,16 +93,6 @@ pub record Placed (r : Rec) (cl : List ℕ) (trades exchanges n : ℕ) : Type 0 
   pub first : r .kind ≡ satisfactionKind → manyOf cl (word r 0) < 8
   pub room : r .kind ≡ satisfactionKind → n < mostSatisfactionOrders
 
--- a Satisfaction Order for which there is room
-pub record Placeable (r : Rec) (cl : List ℕ) (trades exchanges n : ℕ) : Type 0 where
-  pub kind : r .kind ≡ satisfactionKind
-  pub from-one : 1 ≤ word r 1
-  pub to-n : word r 1 ≤ exchanges
-  pub size : word r 3 ≤ mostContracts
-  pub trade : word r 0 < trades
-  pub first : manyOf cl (word r 0) < 8
-  pub room : n < mostSatisfactionOrders
-
 -- a record of any kind
 pub record ClaimsStep (r : Rec) (home exchanges close : ℕ) (tr sn : List ℕ) (trades : ℕ) (cl : List ℕ) (n : ℕ) (cl2 : List ℕ) (n2 : ℕ) : Type 0 where
   pub filing : Filing cl2 n2

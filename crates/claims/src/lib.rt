@@ -6,7 +6,9 @@ ghost use lib.ListN.{length};
 ghost use Rattle.rules.specs.Reasons.{threeMinutes};
 ghost use Rattle.orders.specs.Orders.{Headed};
 ghost use Rattle.claims.specs.Reasons.{laterThan, lateAt, requiredOf, tradeReason, lateReason, priceReason, reasonOf, claimOf, factsOf};
-ghost use Rattle.claims.specs.Lines.{manyOf, Filing, Fileable, Filed, Placed, Placeable, ClaimsStep, Findable, ManyIs, NumberIs, Gathered, DueIs};
+ghost use Rattle.claims.specs.Lines.{manyOf, Filing, Fileable, Filed, Placed, ClaimsStep, Findable, ManyIs, NumberIs, Gathered, DueIs};
+use numbered::SatisfactionOrder;
+use numbered::Trade;
 use prices::Side;
 use quotes::Status;
 use rows::Closing;
@@ -51,9 +53,9 @@ impl Line {
     pub const THERE: usize = 7;
 
     // Where the trades' rows of numbers begin, and those of sums.
-    pub const NUMBERS: usize = 512;
+    pub const NUMBERS: usize = SatisfactionOrder::MOST;
 
-    pub const SUMS: usize = 640;
+    pub const SUMS: usize = Line::NUMBERS + Trade::MOST;
 }
 
 // What a Satisfaction Order is judged by: of its sender at the trade the side traded through, the price and the customer
@@ -249,8 +251,8 @@ fn file_line(cl: &mut [u32; 6144], n: usize, m: usize, row: [u32; 8])
     );
 }
 
-// A Satisfaction Order is judged as it comes, by what its trade kept.
-fn claimed(
+// One record of any kind; only a Satisfaction Order changes anything here, judged as it comes by what its trade kept.
+pub fn keep_claim(
     cl: &mut [u32; 6144],
     tr: &[u32; 1024],
     sn: &[u32; 8192],
@@ -261,10 +263,13 @@ fn claimed(
 ) -> usize
     requires { ⌜ trades ≤ 128 ⌝ }
     requires { ⌜ Headed (seat .exchanges) (seat .home) ⌝ }
-    requires { ⌜ Placeable r (now cl) trades (seat .exchanges) n ⌝ }
+    requires { ⌜ Placed r (now cl) trades (seat .exchanges) n ⌝ }
     requires { ⌜ Filing (now cl) n ⌝ }
     ensures { λ k. ⌜ ClaimsStep r (seat .home) (seat .exchanges) (seat .close) (now (tr .entry)) (now (sn .entry)) trades (now (cl .entry)) n (now (cl .exit)) k ⌝ }
 {
+    if r.kind != Rec::SATISFACTION {
+        return n;
+    }
     let row = r.row;
     let m = rows::index(row[0]);
     let y = rows::index(row[1]) - 1;
@@ -281,28 +286,6 @@ fn claimed(
         [row[0], row[3], why, customers, claim, row[1], side, there],
     );
     n + 1
-}
-
-// One record of any kind; only Satisfaction Orders change anything here.
-pub fn keep_claim(
-    cl: &mut [u32; 6144],
-    tr: &[u32; 1024],
-    sn: &[u32; 8192],
-    n: usize,
-    trades: usize,
-    seat: Seat,
-    r: Rec,
-) -> usize
-    requires { ⌜ trades ≤ 128 ⌝ }
-    requires { ⌜ Headed (seat .exchanges) (seat .home) ⌝ }
-    requires { ⌜ Placed r (now cl) trades (seat .exchanges) n ⌝ }
-    requires { ⌜ Filing (now cl) n ⌝ }
-    ensures { λ k. ⌜ ClaimsStep r (seat .home) (seat .exchanges) (seat .close) (now (tr .entry)) (now (sn .entry)) trades (now (cl .entry)) n (now (cl .exit)) k ⌝ }
-{
-    if r.kind == Rec::SATISFACTION {
-        return claimed(cl, tr, sn, n, trades, seat, r);
-    }
-    n
 }
 
 // How many lines trade m has.

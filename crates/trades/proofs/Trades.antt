@@ -5,7 +5,7 @@ use mathlib.Core.List.{List, [], _∷_}
 use Prim.Native.Nat.{ℕ, zero, suc, _+_, _*_, _<_, _≤_}
 use native.Mathlib.Omega.{arith}
 use lib.Dec.{eqb}
-use lib.ListN.{getD}
+use lib.ListN.{getD, length}
 use borrow.Author.Tests.{eq-eqb, ne-eqb, eqb-true, eqb-false}
 use Rattle.rules.specs.Basics.{keep}
 use Rattle.rules.specs.Header.{Header}
@@ -19,7 +19,7 @@ use Rattle.rows.specs.Rows.{Reads, word, Put, RecOk}
 use Rattle.rows.specs.declared.Rec.{Rec}
 use Rattle.orders.specs.Orders.{Headed}
 use Rattle.excuses.specs.Excuses.{bit}
-use Rattle.trades.specs.Trades.{snap, snapAt, tradeRow, Traded, Snaps, SidesAre, CapIs, Placed, Placeable, TradesStep}
+use Rattle.trades.specs.Trades.{snap, snapAt, tradeRow, Traded, Snaps, SidesAre, CapIs, Placed, TradesStep}
 
 -- ---- a record of another kind
 
@@ -59,16 +59,16 @@ unfolding snap sideThrough
 side-is past e y = refl
 
 module _ (r : Rec) (home exchanges : ℕ) (sizes : List ℕ) (block : Bool) (q st t : List ℕ) (orders : ℕ) (tr sn : List ℕ) (n : ℕ) where
-  pub trade-taken : Headed exchanges home → Placeable r n → (tr2 sn2 : List ℕ) (s : ℕ) → (s ≡ word r 0) × (s < 4294967296)
+  pub trade-taken : Headed exchanges home → Placed r n → r .kind ≡ tradeKind → (tr2 sn2 : List ℕ) (s : ℕ) → (s ≡ word r 0) × (s < 4294967296)
       → Snaps q st t orders n s (word r 1) (r .time) sn sn2 exchanges → (large : Bool) → CapIs sn2 n home exchanges sizes (word r 2) large
       → (b c : ℕ) → b ≡ bit block → c ≡ bit large
       → Put tr tr2 (word r 1 ∷ word r 2 ∷ b ∷ word r 4 ∷ word r 5 ∷ (r .time + word r 6) ∷ c ∷ 0 ∷ []) n 8
       → TradesStep r home exchanges sizes block q st t orders tr sn n tr2 sn2 (n + 1)
-  trade-taken ok pl tr2 sn2 s es k large cis b c eb ec put =
+  trade-taken ok pl kind tr2 sn2 s es k large cis b c eb ec put =
       record {
         so =
             λ h e past is rd blocks qs ss os held.
-            let ek : e .kind ≡ tradeKind = rd .kind ∙ pl .kind in
+            let ek : e .kind ≡ tradeKind = rd .kind ∙ kind in
             let isT : isTrade e ≡ true = eq-eqb (e .kind) tradeKind ek in
             let newT : tradeAt n (e ∷ past) ≡ e = tradeAt-new n e past isT (held .numbered) in
             let newB : beforeTrade n (e ∷ past) ≡ past = beforeTrade-new n e past isT (held .numbered) in
@@ -96,7 +96,7 @@ module _ (r : Rec) (home exchanges : ℕ) (sizes : List ℕ) (block : Bool) (q s
                   rw (tradeAt-older m e past old, beforeTrade-older m e past old)
                   (k .others m y i (omega (arith, ok .few, is .exchanges)) (omega arith) ne ∙ held .snaps m y i (omega (arith, ne)) hy hi));
             };
-        few = omega (arith, pl .room);
+        few = omega (arith, pl .room kind);
       }
 
   pub no-trade : n ≤ 128 → (r .kind ≡ tradeKind → ⊥) → TradesStep r home exchanges sizes block q st t orders tr sn n tr sn n
@@ -106,10 +106,21 @@ module _ (r : Rec) (home exchanges : ℕ) (sizes : List ℕ) (block : Bool) (q s
         few = few;
       }
 
-pub trade-placeable : (r : Rec) (n : ℕ) → Placed r n → r .kind ≡ tradeKind → Placeable r n
-trade-placeable r n p k = record { kind = k; time = p .time; fields = p .trade k; room = p .room k }
+-- what the code of a trade needs of its record
+module _ (r : Rec) (n : ℕ) (pl : Placed r n) (kind : r .kind ≡ tradeKind) where
+  pub trade-has-room : n < 128
+  trade-has-room = pl .room kind
 
-pub ruleset trade-laws = (trade-taken, no-trade, trade-placeable)
+  pub kept-row-fits : (t : List ℕ) → length t ≡ 1024 → n * 8 + 8 ≤ length t
+  kept-row-fits t long = omega (arith, trade-has-room, long)
+
+  pub series-known : (s : ℕ) → (s ≡ word r 0) × (s < 4294967296) → s < 32
+  series-known s es = omega (arith, es .0, pl .trade kind .series)
+
+  pub report-fits : r .time + word r 6 < 4294967296
+  report-fits = omega (arith, pl .time, pl .trade kind .delay)
+
+pub ruleset trade-laws = (no-trade, trade-has-room, kept-row-fits, series-known, report-fits)
 
 pub record-placed : (exchanges home n : ℕ) (r : Rec) → RecOk exchanges home r → exchanges ≤ 8 → (r .kind ≡ tradeKind → n < 128) → Placed r n
 record-placed exchanges home n r ok few room =

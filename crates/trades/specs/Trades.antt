@@ -113,13 +113,6 @@ pub record Placed (r : Rec) (n : ℕ) : Type 0 where
   pub trade : r .kind ≡ tradeKind → TradeOk 8 r
   pub room : r .kind ≡ tradeKind → n < mostTrades
 
--- a trade for which there is room
-pub record Placeable (r : Rec) (n : ℕ) : Type 0 where
-  pub kind : r .kind ≡ tradeKind
-  pub time : r .time ≤ lastTime
-  pub fields : TradeOk 8 r
-  pub room : n < mostTrades
-
 -- a record of any kind
 pub record TradesStep (r : Rec) (home exchanges : ℕ) (sizes : List ℕ) (block : Bool) (q st t : List ℕ) (orders : ℕ)
     (tr sn : List ℕ) (n : ℕ) (tr2 sn2 : List ℕ) (n2 : ℕ) : Type 0 where

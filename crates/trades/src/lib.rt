@@ -4,7 +4,7 @@ ghost use Prim.Native.Nat.{_+_, _*_, _<_, _≤_, min};
 ghost use Rattle.quotes.specs.Tables.{Within};
 ghost use Rattle.orders.specs.Orders.{Headed};
 ghost use Rattle.excuses.specs.Excuses.{bit, Chains};
-ghost use Rattle.trades.specs.Trades.{priceOn, customersOn, excusingSide, caps, ExcuseIs, Snapped, Snaps, CapIs, Placed, Placeable, TradesStep};
+ghost use Rattle.trades.specs.Trades.{priceOn, customersOn, excusingSide, caps, ExcuseIs, Snapped, Snaps, CapIs, Placed, TradesStep};
 use excuses::Excuse;
 use prices::Side;
 use quotes::Quote;
@@ -207,39 +207,7 @@ fn is_capped(
     false
 }
 
-// A trade, found to be a block or not.
-fn traded(
-    tr: &mut [u32; 1024],
-    sn: &mut [u32; 8192],
-    n: usize,
-    seat: Seat,
-    sizes: &[u32; 16],
-    q: &[u32; 2048],
-    st: &[u32; 8],
-    t: &[u32; 2048],
-    ch: &[u32; 512],
-    orders: usize,
-    block: bool,
-    r: Rec,
-) -> usize
-    requires { ⌜ Placeable r n ⌝ }
-    requires { ⌜ Headed (seat .exchanges) (seat .home) ⌝ }
-    requires { ⌜ Chains (now t) (now ch) orders ⌝ }
-    ensures { λ m. ⌜ TradesStep r (seat .home) (seat .exchanges) (now (sizes .entry)) block (now (q .entry)) (now (st .entry)) (now (t .entry)) orders (now (tr .entry)) (now (sn .entry)) n (now (tr .exit)) (now (sn .exit)) m ⌝ }
-{
-    let row = r.row;
-    let time = r.time;
-    let s = rows::index(row[0]);
-    keep_snaps(sn, n, seat.exchanges, q, st, t, ch, orders, s, row[1], time);
-    let capped = bit_of(is_capped(sn, n, seat.home, seat.exchanges, sizes, row[2]));
-    let found = bit_of(block);
-    let report = time + row[6];
-    let kept = [row[1], row[2], found, row[4], row[5], report, capped, 0];
-    rows::put_row(tr, n, kept);
-    n + 1
-}
-
-// One record of any kind; only trades change anything here.
+// One record of any kind; only a trade, found to be a block or not, changes anything here.
 pub fn keep_trade(
     tr: &mut [u32; 1024],
     sn: &mut [u32; 8192],
@@ -260,8 +228,17 @@ pub fn keep_trade(
     requires { ⌜ Chains (now t) (now ch) orders ⌝ }
     ensures { λ m. ⌜ TradesStep r (seat .home) (seat .exchanges) (now (sizes .entry)) block (now (q .entry)) (now (st .entry)) (now (t .entry)) orders (now (tr .entry)) (now (sn .entry)) n (now (tr .exit)) (now (sn .exit)) m ⌝ }
 {
-    if r.kind == Rec::TRADE {
-        return traded(tr, sn, n, seat, sizes, q, st, t, ch, orders, block, r);
+    if r.kind != Rec::TRADE {
+        return n;
     }
-    n
+    let row = r.row;
+    let time = r.time;
+    let s = rows::index(row[0]);
+    keep_snaps(sn, n, seat.exchanges, q, st, t, ch, orders, s, row[1], time);
+    let capped = bit_of(is_capped(sn, n, seat.home, seat.exchanges, sizes, row[2]));
+    let found = bit_of(block);
+    let report = time + row[6];
+    let kept = [row[1], row[2], found, row[4], row[5], report, capped, 0];
+    rows::put_row(tr, n, kept);
+    n + 1
 }

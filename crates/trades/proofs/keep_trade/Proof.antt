@@ -1,19 +1,95 @@
-use Rattle.trades.proofs.Trades.{trade-laws}
+use Rattle.trades.proofs.Trades.{trade-laws, trade-taken}
 use borrow.Author.Needs.{needs}
 use Rattle.trades.proofs.keep_trade.Statement.{statement}
 use Rattle.trades.proofs.keep_trade.Tie as tie
 use Rattle.trades.proofs.keep_trade.Reads as reads
 use Rattle.trades.proofs.keep_trade.Lts as lts
-use Rattle.trades.proofs.traded.Reads as traded-reads
-
-traded-requires : tie.Need-traded-requires
-traded-requires c κs = search (trade-laws, needs)
+use Rattle.rows.proofs.index.Reads as index-reads
+use Rattle.rows.proofs.put_row.Reads as put-row-reads
+use Rattle.trades.proofs.bit_of.Reads as bit-of-reads
+use Rattle.trades.proofs.is_capped.Reads as is-capped-reads
+use Rattle.trades.proofs.keep_snaps.Reads as keep-snaps-reads
 
 returns : tie.Need-returns
 returns c = search (trade-laws, needs)
 
+array-read-index : tie.Need-array-read-index
+array-read-index c = search (trade-laws, needs)
+
+index-requires : tie.Need-index-requires
+index-requires c κs = search (trade-laws, needs)
+
+array-read-keep-snaps : tie.Need-array-read-keep-snaps
+array-read-keep-snaps c = search (trade-laws, needs)
+
+keep-snaps-requires : tie.Need-keep-snaps-requires
+keep-snaps-requires c κs = search (trade-laws, needs)
+
+array-read-is-capped : tie.Need-array-read-is-capped
+array-read-is-capped c = search (trade-laws, needs)
+
+is-capped-requires : tie.Need-is-capped-requires
+is-capped-requires c κs = search (trade-laws, needs)
+
+bit-of-requires : tie.Need-bit-of-requires
+bit-of-requires c κs = search (trade-laws, needs)
+
+bit-of-requires-2 : tie.Need-bit-of-requires-2
+bit-of-requires-2 c κs = search (trade-laws, needs)
+
+array-read-report : tie.Need-array-read-report
+array-read-report c = search (trade-laws, needs)
+
+add-report : tie.Need-add-report
+add-report c = search (trade-laws, needs)
+
+array-read-t23 : tie.Need-array-read-t23
+array-read-t23 c = search (trade-laws, needs)
+
+array-read-t37 : tie.Need-array-read-t37
+array-read-t37 c = search (trade-laws, needs)
+
+array-read-t40 : tie.Need-array-read-t40
+array-read-t40 c = search (trade-laws, needs)
+
+array-read-t43 : tie.Need-array-read-t43
+array-read-t43 c = search (trade-laws, needs)
+
+put-row-requires : tie.Need-put-row-requires
+put-row-requires c κs = search (trade-laws, needs)
+
+add-result : tie.Need-add-result
+add-result c = search (trade-laws, needs)
+
 returns-2 : tie.Need-returns-2
-returns-2 c = search (trade-laws, needs)
+returns-2 c =
+    let found = c .before .before in
+    let capped = found .before in
+    let kept = capped .before .before .before in
+    let trade = kept .before .before .before .before in
+    let given = trade .before .before .pre in
+    trade-taken _ _ _ _ _ _ _ _ _ _ _ _ (given .1 .1 .0) (given .1 .0) (trade .if1 .left) _ _ _ (kept .before .before .index .ensures)
+    (kept .keep-snaps .ensures) _ (capped .before .is-capped .ensures) _ _ (found .bit-of2 .ensures) (capped .bit-of .ensures) (c .put-row .ensures)
 
 pub keep-trade-spec : {M : Type 1} → statement M
-keep-trade-spec = tie.close (tie.spec traded-requires returns returns-2)
+keep-trade-spec =
+    tie.close
+    (tie.spec
+    returns
+    array-read-index
+    index-requires
+    array-read-keep-snaps
+    keep-snaps-requires
+    array-read-is-capped
+    is-capped-requires
+    bit-of-requires
+    bit-of-requires-2
+    array-read-report
+    add-report
+    array-read-t23
+    array-read-t37
+    array-read-t40
+    array-read-t43
+    put-row-requires
+    add-result
+    returns-2)
