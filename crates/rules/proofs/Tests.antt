@@ -81,14 +81,6 @@ pub ruleset facts = (and-eq-true-iff, ltb-iff, leb-iff, eqb-iff, ltb-not, leb-no
 
 -- ---- or
 
-pub or-no : (b : Bool) → (b || false) ≡ b
-or-no true = refl
-or-no false = refl
-
-pub and-no : (b : Bool) → (b && false) ≡ false
-and-no true = refl
-and-no false = refl
-
 pub or-left : (a b : Bool) → (a || b) ≡ false → a ≡ false
 or-left true b e = e
 or-left false b e = refl
