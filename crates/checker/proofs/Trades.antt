@@ -1,9 +1,10 @@
 -- "trade by trade 25, 26": the lines of a trade beside the sheet's, and what the definitions say of them.
 use mathlib.Core.Path.{_≡_, refl, sym, ap, _∙_, subst}
 use mathlib.Core.Bool.{Bool, true, false, not}
-use mathlib.Core.List.{List, [], _∷_, _++_, map, map-append}
+use mathlib.Core.List.{List, [], _∷_, _++_, map, map-map, map-id}
 use Prim.Native.Nat.{ℕ, zero, suc, _+_, _-_, _≤_, _<_}
 use native.Mathlib.Nat.{sub-zero, zero-add}
+use native.Mathlib.Numerals.{add-one}
 use native.Mathlib.Omega.{arith}
 use lib.ListN.{length, take}
 use borrow.Author.Tests.{eq-eqb, ne-eqb, not-true, not-false}
@@ -14,6 +15,7 @@ use Rattle.rules.specs.Due.{Line, lines, linesOf, ofTrade, due, Share, shareRul
 use Rattle.rules.specs.OwnSheet.{SheetLine}
 use Rattle.rules.specs.SheetCheck.{Beside, beside, checkLines, asShare, sharesOf, fillsOf, checkTrade, checkTrades}
 use Rattle.rules.proofs.Tests.{keep-sub, keep-map, map-all}
+use Rattle.rules.proofs.Below.{one-more-below}
 use Rattle.rules.proofs.Lines.{lines-known}
 use Rattle.claims.specs.Lines.{lineAt, linesFrom, manyOf, tradeLines, Gathered, DueIs}
 use Rattle.claims.specs.Books.{Books}
@@ -33,7 +35,7 @@ each-below : {A : Type 0} (f : ℕ → A) (n : ℕ) → map f (below n) ≡ each
 unfolding below each
 each-below f zero = refl
 each-below f (suc n) =
-    map-append f (below n) (n ∷ []) ∙ ap (λ l. l ++ (f n ∷ [])) (each-below f n)
+    rw add-one at (one-more-below f n) ∙ ap (λ l. l ++ (f n ∷ [])) (each-below f n)
     ∙ ap (λ (x : ℕ). each f 0 n ++ (f x ∷ [])) (sym (zero-add n)) ∙ sym (each-more f 0 n)
 
 pub lines-each : (j : Journal) (tr cl : List ℕ) (trades n : ℕ) → Books j tr cl trades n → lines j ≡ each (lineAt cl) 0 n
@@ -64,8 +66,7 @@ abbrev filledAs : List ℕ → Line → Share
 filledAs said l = record { line = l; filled = fillOn said l }
 
 as-shares : (said : List ℕ) (ls : List Line) → map asShare (map (withSaid said) ls) ≡ map (filledAs said) ls
-as-shares said [] = refl
-as-shares said (l ∷ ls) = ap (λ (x : List Share). filledAs said l ∷ x) (as-shares said ls)
+as-shares said ls = map-map asShare (withSaid said) ls
 
 shares-with : (said : List ℕ) (m : ℕ) (ls : List Line) → sharesOf m (map (withSaid said) ls) ≡ map (filledAs said) (ofTrade m ls)
 unfolding sharesOf ofTrade
@@ -73,12 +74,10 @@ shares-with said m ls =
     ap (keep (λ (a : Share). a .line .trade == m)) (as-shares said ls) ∙ keep-map (λ (a : Share). a .line .trade == m) (filledAs said) ls
 
 lines-filled : (said : List ℕ) (ls : List Line) → sharing.linesIn (map (filledAs said) ls) ≡ ls
-lines-filled said [] = refl
-lines-filled said (l ∷ ls) = ap (λ (x : List Line). l ∷ x) (lines-filled said ls)
+lines-filled said ls = map-map _ (filledAs said) ls ∙ map-id ls
 
 fills-filled : (said : List ℕ) (ls : List Line) → fillsOf (map (filledAs said) ls) ≡ map (fillOn said) ls
-fills-filled said [] = refl
-fills-filled said (l ∷ ls) = ap (λ (x : List ℕ). fillOn said l ∷ x) (fills-filled said ls)
+fills-filled said ls = map-map _ (filledAs said) ls
 
 module _ (j : Journal) (tr cl : List ℕ) (trades n : ℕ) (b : Books j tr cl trades n) (said : List ℕ) where
   besides-with : besides cl said n ≡ map (withSaid said) (lines j)

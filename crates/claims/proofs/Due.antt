@@ -2,7 +2,7 @@
 use mathlib.Core.Path.{_≡_, refl, sym, _∙_}
 use mathlib.Core.Bool.{Bool, true, false}
 use mathlib.Core.List.{List, []}
-use Prim.Native.Nat.{ℕ, zero, suc, _+_, _*_, _<_, min}
+use Prim.Native.Nat.{ℕ, _+_, _*_, _<_, min}
 use native.Mathlib.Omega.{arith}
 use lib.ListN.{getD, replicate, length-replicate}
 use Rattle.rules.specs.Basics.{below, keep, sum}
@@ -10,6 +10,7 @@ use Rattle.rules.specs.Header.{Header}
 use Rattle.rules.specs.Record.{trade}
 use Rattle.rules.specs.Journal.{History, count, tradeAt, beforeTrade}
 use Rattle.rules.specs.Due.{capped, linesOf, lines, ofTrade, claimsOf, dueOf, due}
+use Rattle.rules.proofs.Tests.{replicate-at}
 use Rattle.excuses.specs.Excuses.{bit}
 use Rattle.trades.specs.Trades.{tradeRow, Traded}
 use Rattle.claims.specs.Lines.{linesFrom, manyOf, sumOf, tradeLines, Lined, Filing, DueIs}
@@ -55,18 +56,13 @@ pub ruleset due-laws = (capped-due, whole-due)
 
 -- ---- the start
 
-zeros : (n k : ℕ) → _≡_ {A = ℕ} (getD (replicate n 0) k 0) 0
-zeros zero k = refl
-zeros (suc n) zero = refl
-zeros (suc n) (suc k) = zeros n k
-
 none-of-trade : (m : ℕ) → _≡_ {A = ℕ} (manyOf (replicate 6144 0) m) 0
 unfolding manyOf
-none-of-trade m = zeros 6144 ((640 + m) * 8)
+none-of-trade m = replicate-at {A = ℕ} 6144 ((640 + m) * 8) 0
 
 none-claimed : (m : ℕ) → _≡_ {A = ℕ} (sumOf (replicate 6144 0) m) 0
 unfolding sumOf
-none-claimed m = zeros 6144 ((640 + m) * 8 + 1)
+none-claimed m = replicate-at {A = ℕ} 6144 ((640 + m) * 8 + 1) 0
 
 pub lines-none : (h : Header) → Lined h [] (replicate 6144 0) 0
 unfolding linesFrom linesOf below count keep ofTrade sum tradeLines

@@ -1,6 +1,6 @@
 -- What a trade kept says the reason on a Satisfaction Order, its customer contracts and its claim.
 use mathlib.Core.Path.{_≡_, refl, sym, ap, _∙_}
-use mathlib.Core.Bool.{Bool, true, false, not, _&&_}
+use mathlib.Core.Bool.{Bool, true, false, not, _&&_, Bool·not-not}
 use mathlib.Core.List.{List, []}
 use Prim.Native.Nat.{ℕ, _+_, _-_, _*_, _<_, _≤_}
 use native.Mathlib.Omega.{arith}
@@ -39,10 +39,6 @@ reasonIf excused block unled side there contracts status home price complex repo
     ¦ 13 when contracts == 0
     ¦ [])
 
-not-not : (b : Bool) → not (not b) ≡ b
-not-not true = refl
-not-not false = refl
-
 module _ (x b : Bool) (side there contracts status home price complex initiator report close asked now : ℕ) where
   -- an exchange that was not traded through is not asked for its excuse
   unasked-same : reasonIf x b (initiator == 0) side there contracts status home price complex report close asked now
@@ -69,10 +65,10 @@ reason-if : (x b : Bool) (side there contracts status home price complex initiat
       time = now;
     })
 unfolding reasonIf reasonOf requiredOf
-reason-if true true side there contracts status home price complex initiator report close asked now = rw (not-not (eqb initiator 0))
-reason-if true false side there contracts status home price complex initiator report close asked now = rw (not-not (eqb initiator 0))
-reason-if false true side there contracts status home price complex initiator report close asked now = rw (not-not (eqb initiator 0))
-reason-if false false side there contracts status home price complex initiator report close asked now = rw (not-not (eqb initiator 0))
+reason-if true true side there contracts status home price complex initiator report close asked now = rw (Bool·not-not (eqb initiator 0))
+reason-if true false side there contracts status home price complex initiator report close asked now = rw (Bool·not-not (eqb initiator 0))
+reason-if false true side there contracts status home price complex initiator report close asked now = rw (Bool·not-not (eqb initiator 0))
+reason-if false false side there contracts status home price complex initiator report close asked now = rw (Bool·not-not (eqb initiator 0))
 
 reason-kept : (x b : Bool) (side there contracts status home price complex initiator report close asked now : ℕ)
     → reasonIf x b (initiator == 0) side there contracts status home price complex report close asked now

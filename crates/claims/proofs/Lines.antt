@@ -1,21 +1,21 @@
 -- Lines of the definitions and of the table, in all and by trade, and sums of claims: what one more record does to them.
 use mathlib.Core.Path.{_≡_, refl, sym, ap, _∙_}
 use mathlib.Core.Bool.{true, false}
-use mathlib.Core.List.{List, [], _∷_, _++_, map}
-use Prim.Native.Nat.{ℕ, zero, suc, _+_, _-_, _*_, _<_, _≤_}
+use mathlib.Core.List.{List, [], _∷_, _++_, append-nil}
+use Prim.Native.Nat.{ℕ, _+_, _-_, _*_, _<_, _≤_}
 use native.Mathlib.Omega.{arith}
-use native.Mathlib.Numerals.{add-one}
 use lib.Dec.{eqb}
 use lib.ListN.{getD, length, set, length-set}
 use lib.Seq.{getD-set-same, getD-set-other}
 use borrow.Author.Tests.{eq-eqb, ne-eqb, eqb-true, eqb-false}
-use Rattle.rules.specs.Basics.{if_then_else_, _==_, below, keep, sum}
+use Rattle.rules.specs.Basics.{if_then_else_, _==_, keep, sum}
 use Rattle.rules.specs.Header.{Header}
 use Rattle.rules.specs.Record.{Event, field, satisfaction, isSatisfaction, satisfactionKind}
 use Rattle.rules.specs.Journal.{History, count}
 use Rattle.rules.specs.Reasons.{caseOf, customers, reason}
 use Rattle.rules.specs.Due.{Line, lineOf, linesOf, ofTrade, claimsOf, claim}
-use Rattle.rules.proofs.Tests.{byTest}
+use Rattle.rules.proofs.Tests.{byTest, keep-more}
+use Rattle.rules.proofs.Below.{one-more-below, same-below}
 use Rattle.rules.proofs.Histories.{count-cons, count-skip}
 use Rattle.rows.specs.Rows.{Reads, word, Put, RecOk}
 use Rattle.rows.specs.declared.Rec.{Rec}
@@ -28,46 +28,27 @@ use Rattle.claims.proofs.Judge.{reason-is, customers-are, claim-is}
 
 -- ---- one line more at the end
 
-map-snoc : (f : ℕ → Line) (l : List ℕ) (n : ℕ) → map f (l ++ (n ∷ [])) ≡ map f l ++ (f n ∷ [])
-map-snoc f [] n = refl
-map-snoc f (x ∷ l) n = ap (λ (r : List Line). f x ∷ r) (map-snoc f l n)
-
 lines-more : (cl : List ℕ) (n : ℕ) → linesFrom cl (n + 1) ≡ linesFrom cl n ++ (lineAt cl n ∷ [])
-unfolding linesFrom below
-lines-more cl n = rw add-one (map-snoc (lineAt cl) (below n) n)
+unfolding linesFrom
+lines-more cl n = one-more-below (lineAt cl) n
 
 -- the first lines are the same where no row below is
 lines-same : (cl u : List ℕ) (k : ℕ) → ((i : ℕ) → i < k → lineAt u i ≡ lineAt cl i) → linesFrom u k ≡ linesFrom cl k
-unfolding linesFrom below
-lines-same cl u zero h = refl
-lines-same cl u (suc k) h =
-    map-snoc (lineAt u) (below k) k
-    ∙ rw (h k (omega arith))
-    (ap (λ (l : List Line). l ++ (lineAt cl k ∷ [])) (lines-same cl u k (λ i hi. h i (omega arith))) ∙ sym (map-snoc (lineAt cl) (below k) k))
+unfolding linesFrom
+lines-same cl u k h = same-below (lineAt u) (lineAt cl) k h
 
 pub trade-lines-more : (cl : List ℕ) (m k : ℕ) → tradeLines cl m (k + 1) ≡ tradeLines cl m k ++ (lineAt cl (numberAt cl m k) ∷ [])
-unfolding tradeLines below
-trade-lines-more cl m k = rw add-one (map-snoc (λ i. lineAt cl (numberAt cl m i)) (below k) k)
+unfolding tradeLines
+trade-lines-more cl m k = one-more-below (λ i. lineAt cl (numberAt cl m i)) k
 
 trade-lines-same : (cl u : List ℕ) (m k : ℕ) → ((i : ℕ) → i < k → lineAt u (numberAt u m i) ≡ lineAt cl (numberAt cl m i))
     → tradeLines u m k ≡ tradeLines cl m k
-unfolding tradeLines below
-trade-lines-same cl u m zero h = refl
-trade-lines-same cl u m (suc k) h =
-    map-snoc (λ i. lineAt u (numberAt u m i)) (below k) k
-    ∙ rw (h k (omega arith))
-    (ap (λ (l : List Line). l ++ (lineAt cl (numberAt cl m k) ∷ [])) (trade-lines-same cl u m k (λ i hi. h i (omega arith)))
-    ∙ sym (map-snoc (λ i. lineAt cl (numberAt cl m i)) (below k) k))
+unfolding tradeLines
+trade-lines-same cl u m k h = same-below (λ i. lineAt u (numberAt u m i)) (λ i. lineAt cl (numberAt cl m i)) k h
 
 pub of-trade-more : (m : ℕ) (ls : List Line) (l : Line) → ofTrade m (ls ++ (l ∷ [])) ≡ ofTrade m ls ++ (if l .trade == m then l ∷ [] else [])
-unfolding ofTrade keep
-of-trade-more m [] l = refl
-of-trade-more m (x ∷ ls) l =
-    byTest (eqb (x .trade) m) (λ p. rw p (ap (λ (r : List Line). x ∷ r) (of-trade-more m ls l))) (λ p. rw p (of-trade-more m ls l))
-
-append-nil : (l : List Line) → l ++ [] ≡ l
-append-nil [] = refl
-append-nil (x ∷ l) = ap (λ (r : List Line). x ∷ r) (append-nil l)
+unfolding ofTrade
+of-trade-more m ls l = keep-more (λ (x : Line). x .trade == m) ls l
 
 sum-more : (m : ℕ) (ls : List Line) (l : Line)
     → sum (claimsOf (ofTrade m (ls ++ (l ∷ []))))

@@ -1,7 +1,7 @@
 -- The lines of one trade, found by their numbers.
 use mathlib.Core.Path.{_≡_, refl, sym, ap, _∙_}
-use mathlib.Core.List.{List, [], _∷_, _++_, map}
-use Prim.Native.Nat.{ℕ, zero, suc, _+_, _*_, _<_, _≤_}
+use mathlib.Core.List.{List, [], _∷_, _++_, map, map-append}
+use Prim.Native.Nat.{ℕ, _+_, _*_, _<_, _≤_}
 use native.Mathlib.Omega.{arith}
 use native.Mathlib.Numerals.{add-one}
 use lib.ListN.{getD, length, set, take, length-set, length-append}
@@ -12,6 +12,7 @@ use Rattle.rules.specs.Header.{Header}
 use Rattle.rules.specs.Record.{Event, field, isSatisfaction, satisfactionKind}
 use Rattle.rules.specs.Journal.{History, count}
 use Rattle.rules.specs.Due.{Line, lineOf, linesOf, ofTrade, claimsOf}
+use Rattle.rules.proofs.Below.{as-many-below}
 use Rattle.rules.proofs.Journals.{Arrived}
 use Rattle.rules.proofs.TradeLines.{trade-has-at-most-a-line-for-each-exchange}
 use Rattle.claims.specs.Lines.{lineAt, numberAt, manyOf, tradeLines, Lined, Filing, Findable, ManyIs, NumberIs, contractsOf, Gathering, Gathered}
@@ -30,16 +31,12 @@ module _ (cl : List ℕ) (m : ℕ) (f : Findable cl m) where
   unfolding numberAt
   number-read i r h e = record { is = e .0; low = omega (arith, e .0, f .numbers i h) }
 
-map-snoc : (f : Line → ℕ) (ls : List Line) (l : Line) → map f (ls ++ (l ∷ [])) ≡ map f ls ++ (f l ∷ [])
-map-snoc f [] l = refl
-map-snoc f (x ∷ ls) l = ap (λ (r : List ℕ). f x ∷ r) (map-snoc f ls l)
-
 -- one word more of a column
 column-more : (cl : List ℕ) (m i j v : ℕ) (of : Line → ℕ) (words : List ℕ) → j ≡ numberAt cl m i → v ≡ of (lineAt cl j) → i < length words
     → take i words ≡ map of (tradeLines cl m i) → take (i + 1) (set words i v) ≡ map of (tradeLines cl m (i + 1))
 column-more cl m i j v of words ej ev h same =
     let more = trade-lines-more cl m i in
-    rw (trade-lines-more cl m i, add-one i) (take-suc-set words i v h ∙ rw (same, ev, ej) (sym (map-snoc of (tradeLines cl m i) (lineAt cl (numberAt cl m i)))))
+    rw (trade-lines-more cl m i, add-one i) (take-suc-set words i v h ∙ rw (same, ev, ej) (sym (map-append of (tradeLines cl m i) (lineAt cl (numberAt cl m i) ∷ []))))
 
 module _ (cl : List ℕ) (m k : ℕ) (mk : ManyIs cl m k) (claim customers : List ℕ) where
   pub none-gathered : length claim ≡ 8 → length customers ≡ 8 → Gathering cl m k 0 claim customers
@@ -73,15 +70,9 @@ module _ (cl : List ℕ) (m k : ℕ) (mk : ManyIs cl m k) (claim customers : Lis
 
 pub ruleset gather-laws = (many-read, number-read, none-gathered, one-more-gathered, all-gathered)
 
-no-trade-lines : (cl : List ℕ) (m : ℕ) → length (tradeLines cl m 0) ≡ 0
-unfolding tradeLines below
-no-trade-lines cl m = refl
-
-trade-lines-long : (cl : List ℕ) (m j : ℕ) → length (tradeLines cl m j) ≡ j
-trade-lines-long cl m zero = no-trade-lines cl m
-trade-lines-long cl m (suc j) =
-    ap (λ (i : ℕ). length (tradeLines cl m i)) (sym (add-one j)) ∙ ap length (trade-lines-more cl m j)
-    ∙ length-append (tradeLines cl m j) (lineAt cl (numberAt cl m j) ∷ []) ∙ rw (trade-lines-long cl m j) (add-one j)
+pub trade-lines-long : (cl : List ℕ) (m k : ℕ) → length (tradeLines cl m k) ≡ k
+unfolding tradeLines
+trade-lines-long cl m k = as-many-below (λ i. lineAt cl (numberAt cl m i)) k
 
 -- what was gathered, of a history
 pub record LinesGathered (h : Header) (past : History) (m : ℕ) (claim customers : List ℕ) (k : ℕ) : Type 0 where

@@ -1,12 +1,11 @@
 -- Laws of the functions that are given numbers: words copied out of them, and what the entries answer as one number.
 use mathlib.Core.Path.{_≡_, refl, sym, ap, subst, _∙_}
 use mathlib.Core.Bool.{true, false}
-use mathlib.Core.List.{List, [], _∷_, _++_, map}
+use mathlib.Core.List.{List, [], _∷_, _++_}
 use Prim.Native.Nat.{ℕ, zero, suc, _+_, _%_, _<_, _≤_}
 use native.Mathlib.Omega.{arith}
 use native.Mathlib.Nat.{zero-add}
-use native.Mathlib.Numerals.{add-one}
-use lib.ListN.{length, getD, set, drop, replicate, length-map, length-set}
+use lib.ListN.{length, getD, set, drop, replicate, length-set}
 use lib.Seq.{ext-getD}
 use lib.Dec.{eqb}
 use borrow.Author.Tests.{le-leb, lt-leb, eq-eqb, ne-eqb}
@@ -14,14 +13,15 @@ use Rattle.rules.specs.Basics.{_==_, below, Answer, refused, ok, _>>=_, demand}
 use Rattle.rules.specs.Refusals.{outputTooShort}
 use Rattle.rules.specs.Writing.{noPlace, into, lentAfter, writeHeader, writeRecord, readRecord}
 use Rattle.rules.proofs.Answers.{demand-met, demand-missed}
+use Rattle.rules.proofs.Below.{one-more-below, as-many-below}
 use Rattle.numbers.specs.Rows.{pad}
-use Rattle.numbers.proofs.Reading.{pad-none, pad-more}
+use Rattle.numbers.proofs.Reading.{pad-none, pad-more, pad-long}
 use Rattle.text.specs.Lent.{asAnswer, counted}
 use Rattle.text.specs.declared.Written.{Written}
 use Rattle.text.specs.declared.Written.the-variants.{To, Refused}
 use Rattle.header.specs.Head.{firstWords, asHeader, WritesHead}
 use Rattle.header.specs.declared.Head.{Head}
-use Rattle.header.proofs.Ranges.{first-words-length, first-words-are}
+use Rattle.header.proofs.Ranges.{first-words-are}
 use Rattle.record.specs.Taken.{recordedAs, settledAs, entryOf}
 use Rattle.record.specs.declared.Taken.{Taken}
 use Rattle.alone.specs.Alone.{givenAs, ReadAlone, WritesRecord}
@@ -32,21 +32,13 @@ use Rattle.desk.proofs.Exports.{gives-refusal}
 
 -- ---- words copied out of the numbers
 
-map-snoc : (f : ℕ → ℕ) (l : List ℕ) (x : ℕ) → map f (l ++ (x ∷ [])) ≡ map f l ++ (f x ∷ [])
-map-snoc f [] x = refl
-map-snoc f (y ∷ l) x = rw (map-snoc f l x)
-
 one-word-more : (at i : ℕ) (ns : List ℕ) → wordsAt at (i + 1) ns ≡ wordsAt at i ns ++ (getD ns (at + i) 0 ∷ [])
-unfolding wordsAt below
-one-word-more at i ns = rw add-one (map-snoc (λ k. getD ns (at + k) 0) (below i) i)
-
-length-below : (k : ℕ) → length (below k) ≡ k
-unfolding firstWords
-length-below k = sym (length-map (below k) (λ (i : ℕ). getD [] i 0)) ∙ first-words-length k []
+unfolding wordsAt
+one-word-more at i ns = one-more-below (λ k. getD ns (at + k) 0) i
 
 words-length : (at k : ℕ) (ns : List ℕ) → length (wordsAt at k ns) ≡ k
 unfolding wordsAt
-words-length at k ns = length-map (below k) (λ i. getD ns (at + i) 0) ∙ length-below k
+words-length at k ns = as-many-below (λ i. getD ns (at + i) 0) k
 
 pad-all : (k : ℕ) (ns : List ℕ) → length ns ≡ k → pad k 0 ns ≡ ns
 unfolding pad
@@ -142,12 +134,6 @@ pub eleven-words : (used kind elapsed : ℕ) (row : List ℕ)
     ≡ used % refusalUnit ∷ kind ∷ elapsed ∷ firstWords 8 row
 unfolding firstWords below
 eleven-words used kind elapsed row = refl
-
-pad-long : (k : ℕ) (ns : List ℕ) → length (pad k 0 ns) ≡ k
-unfolding pad
-pad-long zero ns = refl
-pad-long (suc k) [] = ap suc (pad-long k [])
-pad-long (suc k) (n ∷ ns) = ap suc (pad-long k ns)
 
 -- ---- the reader
 

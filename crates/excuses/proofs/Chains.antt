@@ -215,13 +215,10 @@ module _ (t u ch : List ℕ) (n k w : ℕ) (c : Chains t ch n) (room : n < 256) 
 pub chains-none : (t ch : List ℕ) → length t ≡ 2048 → length ch ≡ 512 → ((k : ℕ) → getD ch k 0 ≡ 0) → Chains t ch 0
 chains-none t ch lt lc zeros =
     record {
-      rows = λ m h. none m h;
-      heads = λ k h. rw (zeros k) (record { down = omega arith; all = λ m hm p q. none m hm; own = λ pos. none 0 pos });
-      nexts = λ m h. none m h;
+      rows = λ m h. absurd (omega arith);
+      heads = λ k h. rw (zeros k) (record { down = omega arith; all = λ m hm p q. absurd (omega arith); own = λ pos. absurd (omega arith) });
+      nexts = λ m h. absurd (omega arith);
       few = omega arith;
       long = lt;
       chains = lc;
     }
-  where
-    none : {A : Type 0} (m : ℕ) → m < 0 → A
-    none m h = let z : ⊥ = omega arith in elim z [ ]

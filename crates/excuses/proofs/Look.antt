@@ -1,55 +1,24 @@
 -- A trade on its way down a chain: whether some order excuses it.
 use mathlib.Core.Path.{_≡_, refl, sym, _∙_}
-use mathlib.Core.Bool.{Bool, true, false, _&&_, _||_}
-use mathlib.Core.List.{List, [], _∷_, _++_}
-use Prim.Native.Nat.{ℕ, zero, suc, _+_, _-_, _*_, _<_, _≤_}
+use mathlib.Core.Bool.{Bool, true, false, _&&_}
+use mathlib.Core.List.{List}
+use Prim.Native.Nat.{ℕ, _+_, _-_, _*_, _<_, _≤_}
 use native.Mathlib.Omega.{arith}
 use lib.Dec.{eqb, ltb}
 use lib.ListN.{getD}
 use borrow.Author.Tests.{eq-eqb, ne-eqb, eqb-true, eqb-false, ltb-true, ltb-false}
-use Rattle.rules.specs.Basics.{_==_, _moreThan_, any, below}
+use Rattle.rules.specs.Basics.{_==_, _moreThan_}
 use Rattle.rules.specs.Record.{order, isSent}
 use Rattle.rules.specs.Journal.{History, count, sentAt}
 use Rattle.rules.specs.Reasons.{excuseWait, excuses, hadSent}
-use Rattle.rules.proofs.Tests.{byTest, or-no}
+use Rattle.rules.proofs.Tests.{byTest}
+use Rattle.rules.proofs.Below.{any-below-none, any-below-found}
 use Rattle.quotes.specs.Tables.{Within, RowIs}
-use Rattle.excuses.specs.Excuses.{bit, stands, Excused, chainOf, Link, Chains, excusing, Looking, HadSent}
+use Rattle.excuses.specs.Excuses.{stands, Excused, chainOf, Link, Chains, excusing, Looking, HadSent}
 use Rattle.excuses.proofs.Words.{ended-not-excusing}
-use Rattle.excuses.proofs.Sweep.{in-chain, not-in-chain}
-
--- ---- a test on the numbers below n
-
-any-snoc : (f : ℕ → Bool) (l : List ℕ) (n : ℕ) → any f (l ++ (n ∷ [])) ≡ (any f l || f n)
-unfolding any
-any-snoc f [] n = or-no (f n)
-any-snoc f (x ∷ l) n = rw (any-snoc f l n) (go (f x))
-  where
-    go : (b : Bool) → (b || (any f l || f n)) ≡ ((b || any f l) || f n)
-    go true = refl
-    go false = refl
-
-any-below-none : (f : ℕ → Bool) (n : ℕ) → ((m : ℕ) → m < n → f m ≡ false) → any f (below n) ≡ false
-unfolding below any
-any-below-none f zero none = refl
-any-below-none f (suc n) none = any-snoc f (below n) n ∙ rw (any-below-none f n (λ m h. none m (omega arith)), none n (omega arith))
-
-any-below-found : (f : ℕ → Bool) (n i : ℕ) → i < n → f i ≡ true → any f (below n) ≡ true
-unfolding below
-any-below-found f zero i h e = let z : ⊥ = omega arith in elim z [ ]
-any-below-found f (suc n) i h e =
-    any-snoc f (below n) n
-    ∙ byTest (eqb i n) (λ q. rw (← eqb-true i n q, e) (or-yes (any f (below i))))
-    (λ q. rw (any-below-found f n i (omega (arith, eqb-false i n q)) e))
-  where
-    or-yes : (b : Bool) → (b || true) ≡ true
-    or-yes true = refl
-    or-yes false = refl
+use Rattle.excuses.proofs.Sweep.{in-chain, not-in-chain, bit-is}
 
 -- ---- what the row of an order says
-
-bit-is : (b : Bool) → (bit b == 1) ≡ b
-bit-is true = refl
-bit-is false = refl
 
 excuses-stands : (x s side now : ℕ) (past : History) (m : ℕ)
     → excuses x s side now past m

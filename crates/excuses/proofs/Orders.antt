@@ -1,6 +1,6 @@
 -- The table of sent orders beside the history: what one more event of each kind does to the excuse of an order.
 use mathlib.Core.Path.{_≡_, refl, sym, ap, _∙_}
-use mathlib.Core.Bool.{Bool, true, false, not, _&&_, _||_}
+use mathlib.Core.Bool.{Bool, true, false, not, _&&_, _||_, and-false, or-false, and-true}
 use mathlib.Core.List.{List, _∷_}
 use Prim.Native.Nat.{ℕ, _+_, _*_, _<_}
 use native.Mathlib.Omega.{arith}
@@ -12,7 +12,7 @@ use Rattle.rules.specs.Record.{Event, Order, field, order, isSent, quoteKind, s
 use Rattle.rules.specs.Journal.{History, count, since, sentAt, answers}
 use Rattle.rules.specs.Prices.{quotes}
 use Rattle.rules.specs.Reasons.{backsAway, fillsAll, endsExcuse}
-use Rattle.rules.proofs.Tests.{byTest, or-no, and-no}
+use Rattle.rules.proofs.Tests.{byTest}
 use Rattle.rules.proofs.Histories.{count-cons, count-skip, sentAt-older, sentAt-new, since-older, since-new}
 use Rattle.rows.specs.Rows.{Reads, word, Put}
 use Rattle.rows.specs.declared.Rec.{Rec}
@@ -21,7 +21,7 @@ use Rattle.excuses.specs.Excuses.{bit, stands, backed, Excused}
 -- ---- the excuse of one order
 
 not-or : (a b : Bool) → not (a || b) ≡ (not b && not a)
-not-or true b = sym (and-no (not b))
+not-or true b = sym (and-false (not b))
 not-or false true = refl
 not-or false false = refl
 
@@ -33,11 +33,7 @@ module _ (m : ℕ) (e : Event) (past : History) where
       (not-or (endsExcuse m (order (sentAt m past)) e) (any (endsExcuse m (order (sentAt m past))) (since isSent m past)))
 
   pub stands-kept : m < count isSent past → endsExcuse m (order (sentAt m past)) e ≡ false → stands m (e ∷ past) ≡ stands m past
-  stands-kept h p = stands-older h ∙ rw p (and-yes (stands m past))
-    where
-      and-yes : (b : Bool) → (b && true) ≡ b
-      and-yes true = refl
-      and-yes false = refl
+  stands-kept h p = stands-older h ∙ rw p (and-true (stands m past))
 
   pub stands-new : isSent e ≡ true → m ≡ count isSent past → stands m (e ∷ past) ≡ true
   unfolding stands any
@@ -58,12 +54,12 @@ module _ (m : ℕ) (o : Order) (e : Event) where
   unfolding endsExcuse fillsAll answers backsAway quotes
   fill-ends k q =
       rw (eq-eqb (e .kind) responseKind k, eq-eqb (field e 0) m q, ne-eqb (e .kind) quoteKind (kind-not e k (λ z. omega arith)))
-      (or-no (field e 1 == o .size))
+      (or-false (field e 1 == o .size))
 
   pub other-fill-ends-none : e .kind ≡ responseKind → (field e 0 ≡ m → ⊥) → endsExcuse m o e ≡ false
   unfolding endsExcuse fillsAll answers backsAway quotes
   other-fill-ends-none k q =
-      rw (ne-eqb (field e 0) m q, and-no (eqb (e .kind) responseKind), ne-eqb (e .kind) quoteKind (kind-not e k (λ z. omega arith)))
+      rw (ne-eqb (field e 0) m q, and-false (eqb (e .kind) responseKind), ne-eqb (e .kind) quoteKind (kind-not e k (λ z. omega arith)))
 
   pub quote-ends : e .kind ≡ quoteKind → field e 0 ≡ o .other → field e 1 ≡ o .series
       → endsExcuse m o e ≡ backed (o .side) (o .price) (field e 2) (field e 5)
@@ -76,8 +72,8 @@ module _ (m : ℕ) (o : Order) (e : Event) where
   other-quote-ends-none k ne =
       rw (ne-eqb (e .kind) responseKind (kind-not e k (λ z. omega arith)))
       (byTest (eqb (field e 0) (o .other))
-      (λ p. rw (ne-eqb (field e 1) (o .series) (ne (eqb-true (field e 0) (o .other) p)), and-no (eqb (e .kind) quoteKind && eqb (field e 0) (o .other))))
-      (λ p. rw (p, and-no (eqb (e .kind) quoteKind))))
+      (λ p. rw (ne-eqb (field e 1) (o .series) (ne (eqb-true (field e 0) (o .other) p)), and-false (eqb (e .kind) quoteKind && eqb (field e 0) (o .other))))
+      (λ p. rw (p, and-false (eqb (e .kind) quoteKind))))
 
 -- ---- the whole table, after an event that is no sent order
 

@@ -1,5 +1,6 @@
 -- A sent order, a response, and a record of any kind, as the code takes them.
 use mathlib.Core.Path.{_≡_, refl, sym, ap, _∙_}
+use mathlib.Core.Bool.{and-false}
 use mathlib.Core.List.{List, [], _∷_}
 use Prim.Native.Nat.{ℕ, zero, suc, _+_, _*_, _<_, _≤_}
 use native.Mathlib.Omega.{arith}
@@ -9,7 +10,7 @@ use borrow.Author.Tests.{eq-eqb, ne-eqb, eqb-true, eqb-false}
 use Rattle.rules.specs.Basics.{keep}
 use Rattle.rules.specs.Record.{Event, field, order, isSent, quoteKind, sentKind, responseKind}
 use Rattle.rules.specs.Journal.{History, count, sentAt}
-use Rattle.rules.proofs.Tests.{byTest, and-no}
+use Rattle.rules.proofs.Tests.{byTest, replicate-at}
 use Rattle.rows.specs.Rows.{Reads, word, Put, QuoteOk, OrderOk, RecOk}
 use Rattle.rows.specs.declared.Rec.{Rec}
 use Rattle.quotes.specs.Tables.{Within, RowIs}
@@ -136,7 +137,7 @@ module _ (r : Rec) (t : List ℕ) (n m : ℕ) (known : word r 0 < n) (k5 : r .ki
           stands-older m e past (older m is-known),
           fill-ends m (order (sentAt m past)) e ek names,
           eq-eqb (field e 1) ((order (sentAt m past)) .size) (sym (rd .fields 1) ∙ sym full ∙ size-is),
-          and-no (stands m past),
+          and-false (stands m past),
         )
         (cleared-here t m hm long))
         (λ q. let ne = eqb-false a m q in cleared-other t m hm long a ne ∙ held .flags a ha ∙ ap bit (sym (others-stand a ha ne))))
@@ -185,18 +186,10 @@ unfolding count keep
 excuses-none =
     record {
       numbered = refl;
-      fields = λ m i hm hi. none m hm;
-      times = λ m hm. none m hm;
-      flags = λ m hm. none m hm;
+      fields = λ m i hm hi. absurd (omega arith);
+      times = λ m hm. absurd (omega arith);
+      flags = λ m hm. absurd (omega arith);
     }
-  where
-    none : {A : Type 0} (m : ℕ) → m < 0 → A
-    none m h = let z : ⊥ = omega arith in elim z [ ]
 
 pub no-chains : Chains (replicate 2048 0) (replicate 512 0) 0
-no-chains = chains-none (replicate 2048 0) (replicate 512 0) (length-replicate {A = ℕ} 2048 0) (length-replicate {A = ℕ} 512 0) (zeros 512)
-  where
-    zeros : (n k : ℕ) → _≡_ {A = ℕ} (getD (replicate n 0) k 0) 0
-    zeros zero k = refl
-    zeros (suc n) zero = refl
-    zeros (suc n) (suc k) = zeros n k
+no-chains = chains-none (replicate 2048 0) (replicate 512 0) (length-replicate {A = ℕ} 2048 0) (length-replicate {A = ℕ} 512 0) (λ k. replicate-at {A = ℕ} 512 k 0)

@@ -30,7 +30,7 @@ pub not-in-chain : (t : List ℕ) (m x s : ℕ) → (chainOf t m ≡ (x - 1) * 3
 unfolding chainOf
 not-in-chain t m x s ne p q = ne (rw (p, q))
 
-bit-is : (b : Bool) → (bit b == 1) ≡ b
+pub bit-is : (b : Bool) → (bit b == 1) ≡ b
 bit-is true = refl
 bit-is false = refl
 

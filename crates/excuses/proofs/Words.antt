@@ -1,17 +1,13 @@
 -- The tests of the code on single words, one law for each way out.
-use mathlib.Core.Path.{_≡_, refl, sym}
-use mathlib.Core.Bool.{Bool, true, false, not, _&&_, _||_}
+use mathlib.Core.Path.{_≡_, sym}
+use mathlib.Core.Bool.{Bool, true, false, not, _&&_, _||_, and-false, and-true}
 use Prim.Native.Nat.{ℕ, _+_, _≤_}
 use native.Mathlib.Omega.{arith}
 use lib.Dec.{eqb, ltb}
 use borrow.Author.Tests.{eq-eqb, ne-eqb, eqb-true, lt-ltb}
 use Rattle.rules.specs.Reasons.{excuseWait}
-use Rattle.rules.proofs.Tests.{byTest, and-no}
+use Rattle.rules.proofs.Tests.{byTest}
 use Rattle.excuses.specs.Excuses.{backed, outlived, excusing}
-
-and-yes : (b : Bool) → (b && true) ≡ b
-and-yes true = refl
-and-yes false = refl
 
 module _ (side price bid offer : ℕ) (some : 1 ≤ price) where
   pub no-offer-backs-away : side ≡ 1 → offer ≡ 0 → true ≡ backed side price bid offer
@@ -51,10 +47,10 @@ module _ (way sent flag side now : ℕ) where
 
   pub ended-not-excusing : (flag ≡ 1 → ⊥) → false ≡ excusing way sent flag side now
   unfolding excusing
-  ended-not-excusing p = rw (ne-eqb flag 1 p) (sym (and-no (eqb way side && ltb (sent + excuseWait) now)))
+  ended-not-excusing p = rw (ne-eqb flag 1 p) (sym (and-false (eqb way side && ltb (sent + excuseWait) now)))
 
   pub excusing-by-time : way ≡ side → flag ≡ 1 → (a b : ℕ) → a ≡ sent → b ≡ now → ltb (a + 20_000) b ≡ excusing way sent flag side now
   unfolding excusing
-  excusing-by-time p q a b ea eb = rw (eq-eqb way side p, eq-eqb flag 1 q, ea, eb) (sym (and-yes (ltb (sent + excuseWait) now)))
+  excusing-by-time p q a b ea eb = rw (eq-eqb way side p, eq-eqb flag 1 q, ea, eb) (sym (and-true (ltb (sent + excuseWait) now)))
 
 pub ruleset excusing-laws = (other-side-not-excusing, ended-not-excusing, excusing-by-time)

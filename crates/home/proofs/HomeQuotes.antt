@@ -14,7 +14,7 @@ use Rattle.rules.specs.Record.{Quote}
 use Rattle.rules.specs.Journal.{History}
 use Rattle.rules.specs.Prices.{upTo, everyone, away}
 use Rattle.rules.specs.Verdicts.{Verdict, verdict, crosses, locks, lowestNamed, homeQuote}
-use Rattle.rules.proofs.Tests.{byTest}
+use Rattle.rules.proofs.Tests.{byTest, keep-more}
 use Rattle.rows.specs.Rows.{word}
 use Rattle.rows.specs.declared.Rec.{Rec}
 use Rattle.quotes.specs.Tables.{Quoted}
@@ -24,7 +24,7 @@ use Rattle.home.specs.declared.HomeQuote.{HomeQuote}
 use Rattle.home.specs.declared.Found.{Found}
 use Rattle.home.specs.declared.Found.the-variants.{At, Nowhere}
 use Rattle.home.specs.declared.Against.the-variants.{Clear, Locked, Crossed}
-use Rattle.prices.proofs.BestPrices.{others, keep-more, bid-shown, offer-shown}
+use Rattle.prices.proofs.BestPrices.{others, bid-shown, offer-shown}
 
 -- ---- the tests of one exchange
 

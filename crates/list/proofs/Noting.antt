@@ -15,12 +15,13 @@ use Rattle.rules.specs.OwnSheet.{SheetLine}
 use Rattle.rules.specs.GoodSheet.{saidAt}
 use Rattle.rules.specs.Verdicts.{verdict}
 use Rattle.rules.specs.PrintedDay.{ascii, printedLine, oneLine, sheetVerdict, judged, settled, listed}
+use Rattle.rules.proofs.Tests.{flat-append}
 use Rattle.rows.specs.declared.Rec.{Rec}
 use Rattle.market.specs.Judged.{judgedAs, JudgedIs}
 use Rattle.market.specs.declared.Judged.{Judged}
 use Rattle.market.specs.declared.Judged.the-variants.{Nothing, Q, S, R, T}
 use Rattle.list.specs.Listing.{orderLetter, textFrom, Listing, RowPut, JudgedPut, Noted}
-use Rattle.list.proofs.Rows.{flat-append, text-none, put-verdict, put-order}
+use Rattle.list.proofs.Rows.{text-none, put-verdict, put-order}
 
 -- the list of no records
 pub listing-none : (h : Header) (list : List ℕ) → Listing h [] list 0

@@ -1,21 +1,19 @@
 -- The list printed: the rows with our own sheet's lines as the tables have them, their widths added up, one written after another.
-use mathlib.Core.Path.{_≡_, refl, sym, ap, _∙_, subst}
-use mathlib.Core.List.{List, [], _∷_, _++_, map, map-append, map-map, flatMap}
-use Prim.Native.Nat.{ℕ, zero, suc, _+_, _-_, _*_, _<_, _≤_}
+use mathlib.Core.Path.{_≡_, sym, ap, _∙_, subst}
+use mathlib.Core.List.{List, _++_, map, map-map, flatMap}
+use Prim.Native.Nat.{ℕ, _+_, _-_, _*_, _<_, _≤_}
 use native.Mathlib.Omega.{arith}
 use mir.Val.{Fits}
 use mir.Syntax.{w64}
-use lib.Dec.{eqb}
-use lib.ListN.{getD, length, length-append, List·getD-append, List·getD-eq-default}
-use lib.Seq.{getD-at}
-use borrow.Author.Tests.{eqb-true, eqb-false, eq-eqb, ne-eqb}
+use lib.ListN.{getD, length, length-append}
+use borrow.Author.Tests.{eq-eqb, ne-eqb}
 use Rattle.rules.specs.Basics.{below}
 use Rattle.rules.specs.Journal.{Journal}
 use Rattle.rules.specs.Due.{Line, lines}
 use Rattle.rules.specs.GoodSheet as sheet
 use Rattle.rules.specs.OwnSheet.{SheetLine, ownFill, ownLine, ownLines}
 use Rattle.rules.specs.PrintedDay.{printedLine, listed, firstLine, dayText}
-use Rattle.rules.proofs.Tests.{byTest}
+use Rattle.rules.proofs.Below.{as-many-below, at-below, beyond-below, same-below}
 use Rattle.text.specs.Lent.{Wrote, Takes, Writes}
 use Rattle.text.specs.declared.Written.{Written}
 use Rattle.text.specs.declared.Written.the-variants.{To, Refused}
@@ -26,45 +24,17 @@ use Rattle.list.specs.Listing.{mostRows, mostText, letterAt, wordAt, ord
 use Rattle.list.specs.declared.Shown.{Shown}
 use Rattle.list.proofs.Rows.{text-none, text-more, text-longer}
 
--- ---- something for each number below n
-
-map-below : {A : Type 0} (f : ℕ → A) (n : ℕ) → map f (below (suc n)) ≡ map f (below n) ++ (f n ∷ [])
-unfolding below
-map-below f n = map-append f (below n) (n ∷ [])
-
-mapped-length : {A : Type 0} (f : ℕ → A) (n : ℕ) → length (map f (below n)) ≡ n
-mapped-length f zero = unfold below in refl
-mapped-length f (suc n) = ap length (map-below f n) ∙ rw (length-append, mapped-length f n) (omega arith)
-
-mapped-same : {A : Type 0} (f g : ℕ → A) (n : ℕ) → ((i : ℕ) → i < n → f i ≡ g i) → map f (below n) ≡ map g (below n)
-mapped-same f g zero h = unfold below in refl
-mapped-same f g (suc n) h =
-    map-below f n ∙ rw (h n (omega arith), mapped-same f g n (λ i l. h i (omega arith))) (sym (map-below g n))
-
-mapped-at : {A : Type 0} (f : ℕ → A) (d : A) (n i : ℕ) → i < n → getD (map f (below n)) i d ≡ f i
-mapped-at f d zero i h = absurd (omega arith)
-mapped-at f d (suc n) i h =
-    ap (λ l. getD l i d) (map-below f n)
-    ∙ byTest (eqb i n)
-    (λ t. let e = eqb-true i n t in getD-at (map f (below n)) (f n) [] d i (mapped-length f n ∙ sym e) ∙ ap f (sym e))
-    (λ t.
-    let l : i < n = omega (arith, eqb-false i n t) in
-    List·getD-append (map f (below n)) (f n ∷ []) d i (omega (arith, mapped-length f n)) ∙ mapped-at f d n i l)
-
-mapped-beyond : {A : Type 0} (f : ℕ → A) (d : A) (n i : ℕ) → n ≤ i → getD (map f (below n)) i d ≡ d
-mapped-beyond f d n i h = List·getD-eq-default (map f (below n)) d (omega (arith, mapped-length f n))
-
 -- ---- a row as it is printed
 
 module _ (cl fills : List ℕ) (lines event line : ℕ) where
   pub order-beyond : lines ≤ line → OrderShown (sheetFrom cl fills lines) event line (record { event = event; what = 70; a = 0; b = 0; c = 0 })
   unfolding sheetFrom
-  order-beyond h = record { says = rw (mapped-beyond (tableLine cl fills) _ lines line h) }
+  order-beyond h = record { says = rw (beyond-below (tableLine cl fills) _ lines line h) }
 
   pub order-known : line < lines → (rest : ℕ) → rest ≡ getD cl (line * 8 + 1) 0 - getD fills line 0
       → OrderShown (sheetFrom cl fills lines) event line (record { event = event; what = 70; a = getD cl (line * 8 + 2) 0; b = getD fills line 0; c = rest })
   unfolding sheetFrom
-  order-known h rest e = record { says = rw (mapped-at (tableLine cl fills) _ lines line h, e) }
+  order-known h rest e = record { says = rw (at-below (tableLine cl fills) _ lines line h, e) }
 
 module _ (own : List SheetLine) (list : List ℕ) (i : ℕ) where
   pub row-order : letterAt list i ≡ orderLetter → (line : ℕ) → (line ≡ wordAt list i 2) × (line < 4294967296) → (r : Shown) → OrderShown own (wordAt list i 0) line r
@@ -149,10 +119,10 @@ module _ (j : Journal) (tr cl : List ℕ) (trades n : ℕ) (fills : List ℕ) (b
   lines-are = sym (books .lined .lines)
 
   lines-many : length (lines j) ≡ n
-  lines-many = ap length lines-are ∙ mapped-length (lineAt cl) n
+  lines-many = ap length lines-are ∙ as-many-below (lineAt cl) n
 
   line-is : (i : ℕ) → i < n → sheet.lineAt (lines j) i ≡ lineAt cl i
-  line-is i h = rw lines-are (mapped-at (lineAt cl) _ n i h)
+  line-is i h = rw lines-are (at-below (lineAt cl) _ n i h)
 
   table-line-is : (i : ℕ) → i < n → tableLine cl fills i ≡ ownLine j (lineAt cl i)
   unfolding ownLine
@@ -163,7 +133,7 @@ module _ (j : Journal) (tr cl : List ℕ) (trades n : ℕ) (fills : List ℕ) (b
   pub sheet-is : sheetFrom cl fills n ≡ ownLines j
   unfolding sheetFrom ownLines
   sheet-is =
-      mapped-same (tableLine cl fills) (λ i. ownLine j (lineAt cl i)) n table-line-is
+      same-below (tableLine cl fills) (λ i. ownLine j (lineAt cl i)) n table-line-is
       ∙ sym (ap (map (ownLine j)) lines-are ∙ map-map (ownLine j) (lineAt cl) (below n))
 
 -- ---- all of it, or 9

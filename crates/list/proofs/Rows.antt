@@ -1,35 +1,25 @@
 -- Rows as text: one row more is its line more, and a row that is put leaves the earlier ones as they were.
 use mathlib.Core.Path.{_≡_, refl, sym, ap, _∙_}
 use mathlib.Core.Bool.{false}
-use mathlib.Core.List.{List, [], _∷_, _++_, flatMap, append-assoc, append-nil}
+use mathlib.Core.List.{List, [], _∷_, _++_, flatMap}
 use Prim.Native.Nat.{ℕ, zero, suc, _+_, _*_, _%_, _<_, _≤_}
 use Prim.Native.String.{String}
 use native.Mathlib.Omega.{arith}
 use native.Mathlib.Numerals.{add-one}
-use lib.ListN.{getD, length, set, length-set, length-append}
+use lib.ListN.{getD, length, set, length-set}
 use lib.Seq.{getD-set-same, getD-set-other}
-use lib.Dec.{eqb}
-use borrow.Author.Tests.{eqb-true, eqb-false}
 use Rattle.rules.specs.Basics.{_==_, below}
 use Rattle.rules.specs.OwnSheet.{SheetLine}
 use Rattle.rules.specs.GoodSheet.{saidAt}
 use Rattle.rules.specs.Verdicts.{verdict}
 use Rattle.rules.specs.PrintedDay.{ascii, printedLine, oneLine}
-use Rattle.rules.proofs.Tests.{byTest}
+use Rattle.rules.proofs.Tests.{flat-one, flat-more}
+use Rattle.rules.proofs.Below.{fewer-no-longer}
 use Rattle.text.specs.Lines.{lineOf}
 use Rattle.text.proofs.Lines.{line-is-printed}
 use Rattle.list.specs.Listing.{wordAt, orderLetter, orderText, rowText, textFrom, RowPut}
 
 -- ---- lists of lines
-
-pub flat-append : {A : Type 0} (f : A → List ℕ) (a b : List A) → flatMap f (a ++ b) ≡ flatMap f a ++ flatMap f b
-unfolding flatMap
-flat-append f [] b = refl
-flat-append f (x ∷ a) b = ap (λ (r : List ℕ). f x ++ r) (flat-append f a b) ∙ sym (append-assoc (f x) (flatMap f a) (flatMap f b))
-
-pub flat-one : {A : Type 0} (f : A → List ℕ) (x : A) → flatMap f (x ∷ []) ≡ f x
-unfolding flatMap
-flat-one f x = append-nil (f x)
 
 pub text-none : (own : List SheetLine) (list : List ℕ) → textFrom own list 0 ≡ []
 unfolding textFrom below flatMap
@@ -37,22 +27,14 @@ text-none own list = refl
 
 pub text-suc : (own : List SheetLine) (list : List ℕ) (n : ℕ) → textFrom own list (suc n) ≡ textFrom own list n ++ rowText own list n
 unfolding textFrom below
-text-suc own list n =
-    flat-append (rowText own list) (below n) (n ∷ []) ∙ ap (λ (r : List ℕ). flatMap (rowText own list) (below n) ++ r) (flat-one (rowText own list) n)
+text-suc own list n = flat-more (rowText own list) (below n) n
 
 pub text-more : (own : List SheetLine) (list : List ℕ) (n : ℕ) → textFrom own list (n + 1) ≡ textFrom own list n ++ rowText own list n
 text-more own list n = rw (add-one n) (text-suc own list n)
 
 -- fewer rows are no longer text
 pub text-longer : (own : List SheetLine) (list : List ℕ) (m n : ℕ) → m ≤ n → length (textFrom own list m) ≤ length (textFrom own list n)
-text-longer own list m zero h = let e : m ≡ 0 = omega arith in rw e (omega arith)
-text-longer own list m (suc n) h =
-    byTest (eqb m (suc n))
-    (λ t. rw (eqb-true m (suc n) t) (omega arith))
-    (λ t.
-    let d = eqb-false m (suc n) t in
-    let e = rw length-append at (ap length (text-suc own list n)) in
-    omega (arith, text-longer own list m n (omega arith)))
+text-longer own list m n h = fewer-no-longer (textFrom own list) (rowText own list) n (λ k l. text-more own list k) m h
 
 row-same : (own : List SheetLine) (a b : List ℕ) (n : ℕ) → ((k : ℕ) → k < 5 → wordAt b n k ≡ wordAt a n k) → rowText own b n ≡ rowText own a n
 unfolding rowText

@@ -1,6 +1,6 @@
 -- What is printed of a record: the kind decides, one law for each.
 use mathlib.Core.Path.{_≡_, _∙_, sym, ap}
-use mathlib.Core.Bool.{Bool, true, false, not}
+use mathlib.Core.Bool.{Bool, true, false, not, and-false}
 use mathlib.Core.List.{List}
 use Prim.Native.Nat.{ℕ, _<_, _≤_}
 use native.Mathlib.Omega.{arith}
@@ -14,7 +14,6 @@ use Rattle.rules.specs.Record as paper
 use Rattle.rules.specs.Record.{Event, field, quoteKind, tradeKind, sentKind, receivedKind}
 use Rattle.rules.specs.Verdicts.{verdict, sentOrder, receivedOrder}
 use Rattle.rules.specs.PrintedDay.{oneLine, judged}
-use Rattle.rules.proofs.Tests.{and-no}
 use Rattle.rows.specs.Rows.{Reads, OrderOk, RecOk}
 use Rattle.rows.specs.declared.Rec.{Rec}
 use Rattle.quotes.specs.Tables.{Within}
@@ -125,7 +124,7 @@ module _ (q st : List ℕ) (n home : ℕ) (sizes : List ℕ) (sent trades : ℕ)
     judged-away z =
         record {
           so = λ h e past hd reads held hs es et.
-              rw (home-is h e hd reads ∙ not-true b z, and-no (eqb (e .kind) 1), kind-other r e reads 1 4 k1 (λ z. omega arith), kind-other r e reads 1 6 k1 (λ z. omega arith), kind-other r e reads 1 3 k1 (λ z. omega arith));
+              rw (home-is h e hd reads ∙ not-true b z, and-false (eqb (e .kind) 1), kind-other r e reads 1 4 k1 (λ z. omega arith), kind-other r e reads 1 6 k1 (λ z. omega arith), kind-other r e reads 1 3 k1 (λ z. omega arith));
         }
 
     pub judged-home : not b ≡ false → (v : Against) (a : Judged) → QuoteSays v a → (w : HomeQuote) → AgainstIs q n home w v → QuoteIs r w

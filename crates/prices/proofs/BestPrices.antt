@@ -1,6 +1,6 @@
 -- Prices against each other, the best prices out of the table of quotes, and lists of exchanges that grow at the end.
 use mathlib.Core.Path.{_≡_, refl, _∙_, ap}
-use mathlib.Core.Bool.{Bool, false, not}
+use mathlib.Core.Bool.{Bool, false, not, and-false}
 use mathlib.Core.List.{List, [], _∷_, _++_, map}
 use Prim.Native.Nat.{ℕ, zero, suc, _+_, _<_, _≤_, min, max}
 use native.Mathlib.Omega.{arith}
@@ -9,11 +9,11 @@ use native.Mathlib.Numerals.{add-one}
 use lib.Dec.{eqb, ltb}
 use lib.ListN.{getD}
 use borrow.Author.Tests.{eq-eqb, ne-eqb, eqb-true, le-ltb}
-use Rattle.rules.specs.Basics.{if_then_else_, _==_, keep}
+use Rattle.rules.specs.Basics.{_==_}
 use Rattle.rules.specs.Record.{Quote}
 use Rattle.rules.specs.Journal.{History}
 use Rattle.rules.specs.Prices.{standing, upTo, everyone, highest, lowest, bestBid, bestOffer}
-use Rattle.rules.proofs.Tests.{byTest, and-no}
+use Rattle.rules.proofs.Tests.{byTest}
 use Rattle.quotes.specs.Tables.{Quoted}
 use Rattle.prices.specs.Prices.{aboveOf, equalOf, lowerOf, bidOf, offerOf, PlaceIs, BidIs, OfferIs}
 
@@ -21,7 +21,7 @@ use Rattle.prices.specs.Prices.{aboveOf, equalOf, lowerOf, bidOf, offerO
 
 pub above-absent : (a b : ℕ) → b ≡ 0 → false ≡ aboveOf a b
 unfolding aboveOf
-above-absent a b e = rw (eq-eqb b 0 e, and-no (not (eqb a 0)))
+above-absent a b e = rw (eq-eqb b 0 e, and-false (not (eqb a 0)))
 
 pub above-test : (a b : ℕ) → (b ≡ 0 → ⊥) → ltb b a ≡ aboveOf a b
 unfolding aboveOf
@@ -86,11 +86,6 @@ lowest-more f (y ∷ xs) x = ap (lowerOf (f y)) (lowest-more f xs x) ∙ lower-a
 
 abbrev pub others : ℕ → ℕ → Bool
 others home x = not (x == home)
-
-pub keep-more : (p : ℕ → Bool) (xs : List ℕ) (x : ℕ) → keep p (xs ++ (x ∷ [])) ≡ keep p xs ++ (if p x then x ∷ [] else [])
-unfolding keep
-keep-more p [] x = refl
-keep-more p (y ∷ xs) x = byTest (p y) (λ e. rw (e, keep-more p xs x)) (λ e. rw (e, keep-more p xs x))
 
 -- ---- the loops: the best b of the first y exchanges
 

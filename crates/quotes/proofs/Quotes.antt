@@ -1,6 +1,6 @@
 -- Quotes: what one more event does to the quote that stands, and a record to the table.
 use mathlib.Core.Path.{_≡_, refl, sym, _∙_}
-use mathlib.Core.Bool.{_&&_}
+use mathlib.Core.Bool.{_&&_, and-false}
 use mathlib.Core.List.{List, [], _∷_}
 use Prim.Native.Nat.{ℕ, _+_, _-_, _*_, _<_, _≤_}
 use native.Mathlib.Omega.{arith}
@@ -10,7 +10,7 @@ use borrow.Author.Tests.{eq-eqb, ne-eqb, eqb-true, eqb-false}
 use Rattle.rules.specs.Record.{Event, Quote, quote, field, quoteKind}
 use Rattle.rules.specs.Journal.{History}
 use Rattle.rules.specs.Prices.{noQuote, quotes, standing}
-use Rattle.rules.proofs.Tests.{byTest, and-no}
+use Rattle.rules.proofs.Tests.{byTest}
 use Rattle.rows.specs.Rows.{word, Reads, Put, RecOk}
 use Rattle.rows.specs.declared.Rec.{Rec}
 use Rattle.quotes.specs.Tables.{Quoted, Within, RowIs, Placed, QuotesStep}
@@ -25,8 +25,8 @@ pub standing-other : (e : Event) (past : History) (x s : ℕ) → (field e 0 ≡
 unfolding standing quotes
 standing-other e past x s ne =
     byTest (eqb (field e 0) x)
-    (λ p. rw (ne-eqb (field e 1) s (ne (eqb-true (field e 0) x p)), and-no (eqb (e .kind) quoteKind && eqb (field e 0) x)))
-    (λ p. rw (p, and-no (eqb (e .kind) quoteKind)))
+    (λ p. rw (ne-eqb (field e 1) s (ne (eqb-true (field e 0) x p)), and-false (eqb (e .kind) quoteKind && eqb (field e 0) x)))
+    (λ p. rw (p, and-false (eqb (e .kind) quoteKind)))
 
 pub standing-alone : (e : Event) (past : History) (x s : ℕ) → (e .kind ≡ quoteKind → ⊥) → standing x s (e ∷ past) ≡ standing x s past
 unfolding standing quotes

@@ -1,4 +1,5 @@
 pub mod Tests
+pub mod Below
 pub mod Answers
 pub mod Histories
 pub mod Numbers

@@ -1,7 +1,7 @@
 -- Our own sheet of every accepted journal is accepted, line by line and trade by trade.
 use mathlib.Core.Path.{_≡_, refl, sym, ap, _∙_, subst}
 use mathlib.Core.Bool.{Bool, true, false, not, _&&_, _||_}
-use mathlib.Core.List.{List, [], _∷_, _++_, map, flatMap, List·Memᴰ, List·Memᴰ·head, List·Memᴰ·tail, List·Memᴰ·not-nil, Memᴰ·map}
+use mathlib.Core.List.{List, [], _∷_, _++_, map, flatMap, List·Memᴰ, List·Memᴰ·head, List·Memᴰ·tail, List·Memᴰ·not-nil, Memᴰ·map, map-map, map-id}
 use Prim.Native.Nat.{ℕ, zero, suc, _+_, _-_, _*_, _≤_, _<_}
 use native.Mathlib.Nat.{zero-mul}
 use native.Mathlib.Omega.{arith}
@@ -32,7 +32,7 @@ empty-given (l ∷ ls) a m =
     (λ b k. let g = empty-given ls b k in record { from = List·Memᴰ·tail (g .from); within = g .within })
     a m
 
-give-given : (n : ℕ) (ls : List Line) (a : Share) → List·Memᴰ a (give n (map empty ls)) → Given ls a
+pub give-given : (n : ℕ) (ls : List Line) (a : Share) → List·Memᴰ a (give n (map empty ls)) → Given ls a
 unfolding give giveOne
 give-given zero ls a m = empty-given ls a m
 give-given (suc n) ls a m = go (after ss ss a (λ c h. h) m) (give-given n ls)
@@ -52,23 +52,22 @@ give-given (suc n) ls a m = go (after ss ss a (λ c h. h) m) (give-given n ls)
 abbrev pub linesIn : List Share → List Line
 linesIn ss = map (λ (a : Share). a .line) ss
 
-atFirst-lines : (f : Share → Bool) (ss : List Share) → linesIn (atFirst f ss) ≡ linesIn ss
+pub atFirst-lines : (f : Share → Bool) (ss : List Share) → linesIn (atFirst f ss) ≡ linesIn ss
 unfolding atFirst
 atFirst-lines f [] = refl
 atFirst-lines f (a ∷ ss) = byTest (f a) (λ e. rw e) (λ e. rw (e, atFirst-lines f ss))
 
-give-lines : (n : ℕ) (ss : List Share) → linesIn (give n ss) ≡ linesIn ss
+pub give-lines : (n : ℕ) (ss : List Share) → linesIn (give n ss) ≡ linesIn ss
 unfolding give giveOne
 give-lines zero ss = refl
 give-lines (suc n) ss = atFirst-lines _ (give n ss) ∙ give-lines n ss
 
-empty-lines : (ls : List Line) → linesIn (map empty ls) ≡ ls
-empty-lines [] = refl
-empty-lines (l ∷ ls) = rw (empty-lines ls)
+pub empty-lines : (ls : List Line) → linesIn (map empty ls) ≡ ls
+empty-lines ls = map-map _ empty ls ∙ map-id ls
 
 -- ---- n rounds give n contracts, while n is at most the sum of claims
 
-claims-lines : (ss : List Share) → claims ss ≡ sum (claimsOf (linesIn ss))
+pub claims-lines : (ss : List Share) → claims ss ≡ sum (claimsOf (linesIn ss))
 unfolding sum
 claims-lines [] = refl
 claims-lines (a ∷ ss) = rw (claims-lines ss)
@@ -186,6 +185,12 @@ own-within-claim j l m =
     (λ a k e. subst (λ (x : Line). a .filled ≤ x .claim) e (unfold ownShares in give-given (due j (l .trade)) (ofTrade (l .trade) (lines j)) a k .within))
     (own-apart j (l .trade))
 
+pub known-total-is-due : (j : Journal) → ((l : Line) → List·Memᴰ l (lines j) → LineKnown (j .header) (j .history) l)
+    → (n : ℕ) → total (ownShares j n) ≡ due j n
+unfolding ownShares ofTrade
+known-total-is-due j known n =
+    rounds-give-as-many (ofTrade n (lines j)) (λ l m. known l (keep-sub _ _ _ m) .claim-in-customers) (due j n) (due-at-most-claims j n)
+
 module _ (s : List ℕ) (j : Journal) (accepted : journal s ≡ ok j) where
   known : (l : Line) → List·Memᴰ l (lines j) → LineKnown (j .header) (j .history) l
   known = journal-lines-known s j accepted
@@ -210,9 +215,7 @@ module _ (s : List ℕ) (j : Journal) (accepted : journal s ≡ ok j) where
   -- ---- 25 and 26: "the due total can always be given"
 
   pub own-total-is-due : (n : ℕ) → total (ownShares j n) ≡ due j n
-  unfolding ownShares ofTrade
-  own-total-is-due n =
-      rounds-give-as-many (ofTrade n (lines j)) (λ l m. known l (keep-sub _ _ _ m) .claim-in-customers) (due j n) (due-at-most-claims j n)
+  own-total-is-due n = known-total-is-due j known n
 
   own-fair : (n : ℕ) → FairAll (ownShares j n)
   unfolding ownShares

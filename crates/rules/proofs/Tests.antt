@@ -1,10 +1,10 @@
 -- Laws of tests, choices and lists: what a test that holds says of numbers, and the way back.
 use mathlib.Core.Path.{_≡_, refl, sym, ap, _∙_, subst}
-use mathlib.Core.Bool.{Bool, true, false, not, _&&_, _||_, true≢false, false≢true, So, and-eq-true-iff}
-use mathlib.Core.List.{List, [], _∷_, _++_, map, List·Memᴰ, List·Memᴰ·head, List·Memᴰ·tail, List·Memᴰ·not-nil, List·Memᴰ·cases-cons, List·Memᴰ·append-cases, List·Memᴰ·eq-of-singleton}
+use mathlib.Core.Bool.{Bool, true, false, not, _&&_, _||_, true≢false, false≢true, So, and-eq-true-iff, and-assoc, or-assoc}
+use mathlib.Core.List.{List, [], _∷_, _++_, map, flatMap, append-assoc, append-nil, List·Memᴰ, List·Memᴰ·head, List·Memᴰ·tail, List·Memᴰ·not-nil, List·Memᴰ·cases-cons, List·Memᴰ·append-cases, List·Memᴰ·eq-of-singleton}
 use mathlib.Core.Logic.{_⊎_, inl, inr, _↔_}
 use Prim.Native.Nat.{ℕ, zero, suc, _+_, _≤_, _<_}
-use lib.ListN.{length, getD}
+use lib.ListN.{length, getD, replicate}
 use native.Mathlib.Omega.{arith}
 use lib.Dec.{ltb, leb, eqb}
 use borrow.Author.Tests.{ltb-true, ltb-false, leb-true, leb-false, eqb-true, eqb-false, not-true, lt-ltb, le-ltb, le-leb, lt-leb, eq-eqb, ne-eqb}
@@ -50,6 +50,11 @@ unfolding all
 all-make f [] h = refl
 all-make f (y ∷ l) h = and-make (f y) (all f l) (h y (List·Memᴰ·head refl)) (all-make f l (λ x m. h x (List·Memᴰ·tail m)))
 
+pub all-append : {A : Type 0} (f : A → Bool) (a b : List A) → all f (a ++ b) ≡ (all f a && all f b)
+unfolding all
+all-append f [] b = refl
+all-append f (x ∷ a) b = rw (all-append f a b) (sym (and-assoc (f x) (all f a) (all f b)))
+
 -- tests as facts: `simp facts at h` turns a test that holds into facts on numbers, which omega reads
 pub ltb-iff : (a b : ℕ) → So (ltb a b) ↔ (a < b)
 ltb-iff a b = (ltb-true a b, lt-ltb a b)
@@ -76,14 +81,6 @@ pub ruleset facts = (and-eq-true-iff, ltb-iff, leb-iff, eqb-iff, ltb-not, leb-no
 
 -- ---- or
 
-pub or-no : (b : Bool) → (b || false) ≡ b
-or-no true = refl
-or-no false = refl
-
-pub and-no : (b : Bool) → (b && false) ≡ false
-and-no true = refl
-and-no false = refl
-
 pub or-left : (a b : Bool) → (a || b) ≡ false → a ≡ false
 or-left true b e = e
 or-left false b e = refl
@@ -107,6 +104,11 @@ any-none f (y ∷ l) e x m =
 
 pub any-make {ℓ} : {A : Type ℓ} (f : A → Bool) (l : List A) (x : A) → List·Memᴰ x l → f x ≡ true → any f l ≡ true
 any-make f l x m e = byTest (any f l) (λ p. p) (λ p. absurd (true≢false (sym e ∙ any-none f l p x m)))
+
+pub any-append : {A : Type 0} (f : A → Bool) (a b : List A) → any f (a ++ b) ≡ (any f a || any f b)
+unfolding any
+any-append f [] b = refl
+any-append f (x ∷ a) b = rw (any-append f a b) (sym (or-assoc (f x) (any f a) (any f b)))
 
 -- ---- what is kept of a list
 
@@ -132,6 +134,24 @@ pub keep-append : {A : Type 0} (f : A → Bool) (a b : List A) → keep f (a ++ 
 unfolding keep
 keep-append f [] b = refl
 keep-append f (x ∷ a) b = byTest (f x) (λ e. rw (e, keep-append f a b)) (λ e. rw (e, keep-append f a b))
+
+pub keep-more : {A : Type 0} (f : A → Bool) (l : List A) (x : A) → keep f (l ++ (x ∷ [])) ≡ keep f l ++ (if f x then x ∷ [] else [])
+unfolding keep
+keep-more f l x = keep-append f l (x ∷ [])
+
+-- ---- what each element of a list gives
+
+pub flat-append : {A B : Type 0} (f : A → List B) (a b : List A) → flatMap f (a ++ b) ≡ flatMap f a ++ flatMap f b
+unfolding flatMap
+flat-append f [] b = refl
+flat-append f (x ∷ a) b = rw (flat-append f a b) (sym (append-assoc (f x) (flatMap f a) (flatMap f b)))
+
+pub flat-one : {A B : Type 0} (f : A → List B) (x : A) → flatMap f (x ∷ []) ≡ f x
+unfolding flatMap
+flat-one f x = append-nil (f x)
+
+pub flat-more : {A B : Type 0} (f : A → List B) (l : List A) (x : A) → flatMap f (l ++ (x ∷ [])) ≡ flatMap f l ++ f x
+flat-more f l x = flat-append f l (x ∷ []) ∙ ap (λ r. flatMap f l ++ r) (flat-one f x)
 
 pub map-same : {A B : Type 0} (f g : A → B) (l : List A) → ((x : A) → List·Memᴰ x l → f x ≡ g x) → map f l ≡ map g l
 map-same f g [] h = refl
@@ -165,3 +185,8 @@ by-place P d (x ∷ l) f (suc i) h = by-place P d l (λ y m. f y (List·Memᴰ·
 pub by-member : {A : Type 0} (P : A → Type 0) (d : A) (l : List A) → ((i : ℕ) → i < length l → P (getD l i d)) → (x : A) → List·Memᴰ x l → P x
 by-member P d [] f x m = absurd (List·Memᴰ·not-nil m)
 by-member P d (y ∷ l) f x m = on-cons P (f 0 (omega arith)) (by-member P d l (λ i h. f (suc i) (omega arith))) x m
+
+pub replicate-at : {A : Type 0} (n k : ℕ) (d : A) → getD (replicate n d) k d ≡ d
+replicate-at zero k d = refl
+replicate-at (suc n) zero d = refl
+replicate-at (suc n) (suc k) d = replicate-at n k d

@@ -1,6 +1,6 @@
 -- The lines of one trade: one for each exchange that sent a Satisfaction Order for it, so at most as many as there are exchanges.
 use mathlib.Core.Path.{_≡_, refl, sym, ap, _∙_, subst}
-use mathlib.Core.Bool.{Bool, true, false, not, _&&_, _||_}
+use mathlib.Core.Bool.{Bool, true, false, not, _&&_, _||_, and-false}
 use mathlib.Core.List.{List, [], _∷_, _++_, append-nil}
 use Prim.Native.Nat.{ℕ, zero, suc, _+_, _≤_, _<_}
 use native.Mathlib.Omega.{arith}
@@ -12,7 +12,7 @@ use Rattle.rules.specs.Header.{Header}
 use Rattle.rules.specs.Record.{Event, fits, fitAll, fieldsAmong, fieldsOf, field, satisfaction, isResponse, isSatisfaction, satisfactionKind}
 use Rattle.rules.specs.Journal.{History, count, repeats, satisfactionBelongs, belongs}
 use Rattle.rules.specs.Due.{Line, lineOf, linesOf, ofTrade}
-use Rattle.rules.proofs.Tests.{byTest, and-left, and-right, and-no, or-left, or-right, keep-append, facts}
+use Rattle.rules.proofs.Tests.{byTest, and-left, and-right, or-left, or-right, keep-append, facts}
 use Rattle.rules.proofs.Histories.{count-cons, count-skip}
 use Rattle.rules.proofs.Records.{InRange}
 use Rattle.rules.proofs.Journals.{Arrived, none, more}
@@ -57,7 +57,7 @@ none-before (p ∷ past) e x q a =
 
 sentBy-other : (n x : ℕ) (e : Event) → ((satisfaction e) .sender ≡ suc x → ⊥) → sentBy n x e ≡ false
 unfolding sentBy
-sentBy-other n x e h = rw (ne-eqb ((satisfaction e) .sender) (suc x) h) (and-no (isSatisfaction e && (satisfaction e) .trade == n))
+sentBy-other n x e h = rw (ne-eqb ((satisfaction e) .sender) (suc x) h) (and-false (isSatisfaction e && (satisfaction e) .trade == n))
 
 sentBy-trade : (n x : ℕ) (e : Event) → (isSatisfaction e && (satisfaction e) .trade == n) ≡ false → sentBy n x e ≡ false
 unfolding sentBy

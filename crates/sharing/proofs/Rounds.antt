@@ -2,7 +2,7 @@
 -- where all claims are due every line is filled.
 use mathlib.Core.Path.{_≡_, refl, ap, _∙_}
 use mathlib.Core.Bool.{Bool, true, false}
-use mathlib.Core.List.{List, [], _∷_, map, List·Memᴰ, List·Memᴰ·head, List·Memᴰ·tail, List·Memᴰ·not-nil}
+use mathlib.Core.List.{List, [], _∷_, map, List·Memᴰ, List·Memᴰ·head, List·Memᴰ·tail}
 use Prim.Native.Nat.{ℕ, zero, suc, _+_, _*_, _<_, _≤_}
 use native.Mathlib.Omega.{arith}
 use lib.Dec.{leb}
@@ -12,9 +12,9 @@ use Rattle.rules.specs.Basics.{all, sum}
 use Rattle.rules.specs.Due.{Line, claimsOf, Share, unfilled}
 use Rattle.rules.specs.OwnSheet.{noLater, isNext, atFirst, giveOne, give, empty}
 use Rattle.rules.specs.SheetCheck.{fillsOf}
-use Rattle.rules.proofs.Tests.{byTest, and-right, and-make, when-true, when-make, all-at, all-make, on-cons}
-use Rattle.rules.proofs.Giving.{After, kept, given, after, next-open, total, claims, Within}
-use Rattle.rules.proofs.OwnSheet.{rounds-give-as-many}
+use Rattle.rules.proofs.Tests.{byTest, and-right, and-make, when-true, when-make, all-at, all-make}
+use Rattle.rules.proofs.Giving.{total, claims, Within}
+use Rattle.rules.proofs.OwnSheet.{rounds-give-as-many, atFirst-lines, give-lines, empty-lines, claims-lines, give-given}
 use Rattle.sharing.specs.Lines.{linesIn}
 use Rattle.sharing.specs.Turns.{shareAt}
 use Rattle.sharing.proofs.Places.{member-at, by-places}
@@ -87,42 +87,14 @@ rounds-over (suc due) n ss h e =
 
 -- ---- the lines stay
 
-atFirst-lines : (f : Share → Bool) (ss : List Share) → linesIn (atFirst f ss) ≡ linesIn ss
-unfolding atFirst
-atFirst-lines f [] = refl
-atFirst-lines f (a ∷ ss) = byTest (f a) (λ e. rw e) (λ e. rw (e, atFirst-lines f ss))
-
 pub round-keeps-lines : (ss : List Share) → linesIn (giveOne ss) ≡ linesIn ss
 unfolding giveOne
 round-keeps-lines ss = atFirst-lines (isNext ss) ss
 
-pub empty-keeps-lines : (ls : List Line) → linesIn (map empty ls) ≡ ls
-empty-keeps-lines [] = refl
-empty-keeps-lines (l ∷ ls) = rw (empty-keeps-lines ls)
-
 pub give-keeps-lines : (n : ℕ) (ls : List Line) → linesIn (give n (map empty ls)) ≡ ls
-unfolding give
-give-keeps-lines zero ls = empty-keeps-lines ls
-give-keeps-lines (suc n) ls = round-keeps-lines (give n (map empty ls)) ∙ give-keeps-lines n ls
+give-keeps-lines n ls = give-lines n (map empty ls) ∙ empty-lines ls
 
 -- ---- where all claims are due
-
-round-keeps-within : (ss : List Share) → Within ss → Within (giveOne ss)
-unfolding giveOne
-round-keeps-within ss w a m = go (after ss ss a (λ c h. h) m)
-  where
-    go : After ss a → a .filled ≤ a .line .claim
-    go (kept k) = w a k
-    go (given b k e p) = let o = next-open ss b e in rw p (omega arith)
-
-empty-within : (ls : List Line) → Within (map empty ls)
-empty-within [] a m = absurd (List·Memᴰ·not-nil m)
-empty-within (l ∷ ls) a m = on-cons (λ (b : Share). b .filled ≤ b .line .claim) (omega arith) (empty-within ls) a m
-
-give-within : (n : ℕ) (ls : List Line) → Within (give n (map empty ls))
-unfolding give
-give-within zero ls = empty-within ls
-give-within (suc n) ls = round-keeps-within (give n (map empty ls)) (give-within n ls)
 
 within-total : (ss : List Share) → Within ss → total ss ≤ claims ss
 unfolding sum
@@ -139,11 +111,6 @@ full-total-fills (a ∷ ss) w h =
     let e : a .filled ≡ a .line .claim = omega arith in
     rw (e, full-total-fills ss v (omega arith))
 
-claims-of-lines : (ss : List Share) → claims ss ≡ sum (claimsOf (linesIn ss))
-unfolding sum
-claims-of-lines [] = refl
-claims-of-lines (a ∷ ss) = rw (claims-of-lines ss)
-
 -- "each line gets its claim"
 pub all-claims-due-fills-every-claim : (ls : List Line) → ((l : Line) → List·Memᴰ l ls → l .claim ≤ l .customers)
     → fillsOf (give (sum (claimsOf ls)) (map empty ls)) ≡ claimsOf ls
@@ -152,5 +119,5 @@ all-claims-due-fills-every-claim ls served =
     let ss : List Share = give n (map empty ls) in
     let e : linesIn ss ≡ ls = give-keeps-lines n ls in
     let t : total ss ≡ n = rounds-give-as-many ls served n (omega arith) in
-    let c : claims ss ≡ n = claims-of-lines ss ∙ ap (λ (x : List Line). sum (claimsOf x)) e in
-    full-total-fills ss (give-within n ls) (omega arith) ∙ ap claimsOf e
+    let c : claims ss ≡ n = claims-lines ss ∙ ap (λ (x : List Line). sum (claimsOf x)) e in
+    full-total-fills ss (λ a m. give-given n ls a m .within) (omega arith) ∙ ap claimsOf e

@@ -16,7 +16,7 @@ use Rattle.rules.proofs.Giving.{Fair, fair-says, says-fair}
 use Rattle.rules.proofs.OwnSheet.{fair-shares-keep-the-rule}
 use Rattle.sharing.specs.Lines.{Gathered, WithinClaims, RuleAnswered}
 use Rattle.sharing.specs.Turns.{at, Breaks, shareAt, FairSoFar}
-use Rattle.sharing.proofs.Words.{words-product-fits}
+use Rattle.rows.proofs.Rows.{words-product-fits}
 use Rattle.sharing.proofs.Places.{member-at, by-places, gathered-many, fill-at, claim-at, customers-at, sound-at}
 
 -- ---- one pair

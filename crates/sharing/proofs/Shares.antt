@@ -10,12 +10,13 @@ use Rattle.rules.specs.Basics.{sum}
 use Rattle.rules.specs.Due.{Line, claimsOf, Share}
 use Rattle.rules.specs.OwnSheet.{giveOne, give, empty}
 use Rattle.rules.specs.SheetCheck.{fillsOf}
+use Rattle.rules.proofs.OwnSheet.{empty-lines}
 use Rattle.sharing.specs.declared.Turn.{Turn}
 use Rattle.sharing.specs.Lines.{Lined, Gathered, SharedOut}
 use Rattle.sharing.specs.Turns.{at, Least, Nobody, Found, nobody, least, Scanning, NextTurn, Given, Giving, Copied, shareAt}
 use Rattle.sharing.proofs.Turns.{scanning-none, scanning-more}
 use Rattle.sharing.proofs.Places.{gathered-many, fill-at, claim-at, customers-at, gathered-served}
-use Rattle.sharing.proofs.Rounds.{round-gives, round-over, rounds-over, round-keeps-lines, empty-keeps-lines, all-claims-due-fills-every-claim}
+use Rattle.sharing.proofs.Rounds.{round-gives, round-over, rounds-over, round-keeps-lines, all-claims-due-fills-every-claim}
 
 -- ---- the turn found is the round's
 
@@ -125,7 +126,7 @@ empty-gathered : (ls : List Line) (claim customers fill : List ℕ) (k : ℕ) �
     → Gathered (map empty ls) claim customers fill k
 empty-gathered ls claim customers fill k e l =
     record {
-      lined = subst (λ (x : List Line). Lined x claim customers k) (sym (empty-keeps-lines ls)) l;
+      lined = subst (λ (x : List Line). Lined x claim customers k) (sym (empty-lines ls)) l;
       fills = e ∙ ap (λ (n : ℕ). take n (replicate 8 0)) (l .many) ∙ none-filled ls 8 (omega (arith, l .many, l .few));
     }
 

@@ -11,7 +11,7 @@ use borrow.Author.Count.{below-more}
 use Rattle.rules.proofs.Tests.{byTest}
 use Rattle.sharing.specs.declared.Turn.{Turn}
 use Rattle.sharing.specs.Turns.{at, soonerOf, Least, Nobody, Found, nobody, least, Served, Scanning}
-use Rattle.sharing.proofs.Words.{words-product-fits}
+use Rattle.rows.proofs.Rows.{words-product-fits}
 
 -- ---- the better of two
 

@@ -13,6 +13,7 @@ use Rattle.rules.specs.OwnSheet.{ownShares, ownFill, give, empty}
 use Rattle.rules.specs.SheetCheck.{fillsOf}
 use Rattle.rules.specs.GoodSheet.{lineAt}
 use Rattle.rules.proofs.Tests.{byTest, keep-sub, by-place}
+use Rattle.rules.proofs.Below.{at-below}
 use Rattle.rules.proofs.Lines.{LineKnown, lines-known}
 use Rattle.rules.proofs.ByTrade.{lines-numbered-from-0, line-among-its-trade, trade-line-among-all, trade-lines-differ, own-fill-at}
 use Rattle.sharing.specs.Lines.{Lined, SharedOut}
@@ -20,8 +21,7 @@ use Rattle.sharing.proofs.Gathering.{known-line-sound}
 use Rattle.claims.specs.Lines as table
 use Rattle.claims.specs.Lines.{numberAt, manyOf, tradeLines, Filing, Findable, NumberIs, Gathered, DueIs}
 use Rattle.claims.specs.Books.{Books}
-use Rattle.claims.proofs.TradeLines.{trade-findable, gathered-lines}
-use Rattle.sheet.proofs.Below.{as-many-below, at-below}
+use Rattle.claims.proofs.TradeLines.{trade-findable, gathered-lines, trade-lines-long}
 use Rattle.sheet.specs.Tables.{Apart, Scattered, Scattering, FilledBelow, FillsTrade, Filling, OwnFills}
 
 -- ---- a trade's fills, each to the word of its line
@@ -69,10 +69,6 @@ module _ (cl : List ℕ) (m k : ℕ) (fill fills : List ℕ) where
 pub ruleset scatter-laws = (scattered-none, scattered-all, line-there, fill-there, scattered-more)
 
 -- ---- what the tables of a whole journal say of one trade's lines
-
-trade-lines-long : (cl : List ℕ) (m k : ℕ) → length (tradeLines cl m k) ≡ k
-unfolding tradeLines
-trade-lines-long cl m k = as-many-below (λ i. table.lineAt cl (numberAt cl m i)) k
 
 trade-line-at : (cl : List ℕ) (m k y : ℕ) → y < k → lineAt (tradeLines cl m k) y ≡ table.lineAt cl (numberAt cl m y)
 unfolding tradeLines

@@ -1,25 +1,22 @@
 -- The bytes of our own sheet: one line more, all lines, and that they are the journal's own sheet.
 use mathlib.Core.Path.{_≡_, refl, sym, ap, _∙_, subst}
-use mathlib.Core.List.{List, [], _∷_, _++_, map, flatMap, append-nil, append-assoc}
+use mathlib.Core.List.{List, [], _∷_, _++_, map, flatMap, map-map}
 use Prim.Native.Nat.{ℕ, zero, suc, _+_, _-_, _*_, _<_, _≤_}
 use native.Mathlib.Omega.{arith}
-use native.Mathlib.Numerals.{add-one}
 use mir.Val.{Fits}
 use mir.Syntax.{w64}
 use lib.ListN.{getD, length, take, replicate, length-append, length-replicate}
-use lib.Dec.{eqb}
-use borrow.Author.Tests.{eqb-true, eqb-false}
 use Rattle.rules.specs.Basics.{below, sum}
 use Rattle.rules.specs.Number.{largest, bytesOf, bytesOfAll}
 use Rattle.rules.specs.Journal.{Journal}
-use Rattle.rules.specs.Due.{Line, lines, ofTrade, claimsOf, due}
-use Rattle.rules.specs.OwnSheet.{SheetLine, lineBytes, sheetBytes, ownShares, ownFill, ownLine, ownLines, ownSheet}
+use Rattle.rules.specs.Due.{Line, lines, ofTrade, claimsOf}
+use Rattle.rules.specs.OwnSheet.{lineBytes, sheetBytes, ownShares, ownFill, ownLine, ownLines, ownSheet}
 use Rattle.rules.specs.SheetCheck.{fillsOf}
 use Rattle.rules.specs.GoodSheet.{lineAt}
-use Rattle.rules.proofs.Tests.{byTest, by-place, keep-sub}
+use Rattle.rules.proofs.Tests.{by-place, flat-more}
+use Rattle.rules.proofs.Below.{one-more-below, at-below, same-below, fewer-no-longer}
 use Rattle.rules.proofs.Lines.{LineKnown, lines-count, due-at-most-claims}
-use Rattle.rules.proofs.Giving.{total}
-use Rattle.rules.proofs.OwnSheet.{rounds-give-as-many}
+use Rattle.rules.proofs.OwnSheet.{known-total-is-due}
 use Rattle.rules.proofs.ByTrade.{line-among-its-trade, own-fill-at}
 use Rattle.number.specs.Writing.{leftBy, leftAt, writeNumber}
 use Rattle.text.specs.declared.Written.{Written}
@@ -31,17 +28,11 @@ use Rattle.numbers.proofs.Rows.{number-put, number-refused, bytes-of-more}
 use Rattle.claims.specs.Lines as table
 use Rattle.claims.specs.Lines.{linesFrom, Filing}
 use Rattle.claims.specs.Books.{Books, OwnFilled}
-use Rattle.sheet.proofs.Below.{one-more-below, at-below, same-below, map-of-map}
 use Rattle.sheet.proofs.OwnFills.{known-in-books}
 use Rattle.sheet.specs.Tables.{OwnFills}
 use Rattle.sheet.specs.Written.{saysAt, threeAt, bytesTo, Stores, Summing, PutsNumber, PutsLine, PutsLines, Putting, OwnWritten}
 
 -- ---- one line more
-
-sheet-more : (ss : List SheetLine) (s : SheetLine) → sheetBytes (ss ++ (s ∷ [])) ≡ sheetBytes ss ++ lineBytes s
-unfolding sheetBytes flatMap
-sheet-more [] s = append-nil (lineBytes s)
-sheet-more (x ∷ ss) s = rw (sheet-more ss s) (sym (append-assoc (lineBytes x) (sheetBytes ss) (lineBytes s)))
 
 module _ (cl fills : List ℕ) where
   bytes-none : bytesTo cl fills 0 ≡ []
@@ -49,19 +40,11 @@ module _ (cl fills : List ℕ) where
   bytes-none = refl
 
   pub bytes-more : (i : ℕ) → bytesTo cl fills (i + 1) ≡ bytesTo cl fills i ++ bytesOfAll (take 3 (threeAt cl fills i))
-  unfolding bytesTo lineBytes
-  bytes-more i = rw (add-one i) (ap sheetBytes (one-more-below (saysAt cl fills) i) ∙ sheet-more (map (saysAt cl fills) (below i)) (saysAt cl fills i))
+  unfolding bytesTo sheetBytes lineBytes
+  bytes-more i = ap sheetBytes (one-more-below (saysAt cl fills) i) ∙ flat-more lineBytes (map (saysAt cl fills) (below i)) (saysAt cl fills i)
 
   bytes-grow : (i n : ℕ) → i ≤ n → length (bytesTo cl fills i) ≤ length (bytesTo cl fills n)
-  bytes-grow i zero h = let e : i ≡ 0 = omega arith in rw e (omega arith)
-  bytes-grow i (suc n) h =
-      let more = ap length (bytes-more n) ∙ length-append (bytesTo cl fills n) (bytesOfAll (take 3 (threeAt cl fills n))) in
-      let same : n + 1 ≡ suc n = add-one n in
-      byTest (eqb i (suc n))
-      (λ q. rw (eqb-true i (suc n) q) (omega arith))
-      (λ q. let ne = eqb-false i (suc n) q in
-      let ih = bytes-grow i n (omega (arith, ne)) in
-      omega (arith, ih, more, ap (λ x. length (bytesTo cl fills x)) same))
+  bytes-grow i n h = fewer-no-longer (bytesTo cl fills) (λ k. bytesOfAll (take 3 (threeAt cl fills k))) n (λ k l. bytes-more k) i h
 
   -- ---- how many bytes
 
@@ -197,14 +180,9 @@ module _ (j : Journal) (tr cl : List ℕ) (trades n : ℕ) (b : Books j tr cl tr
     own-bytes = ap sheetBytes (same-below (saysAt cl fills) (λ i. ownLine j (table.lineAt cl i)) n says-own ∙ from)
       where
         from : map (λ i. ownLine j (table.lineAt cl i)) (below n) ≡ map (ownLine j) (lines j)
-        from = sym (map-of-map (ownLine j) (table.lineAt cl) (below n)) ∙ ap (map (ownLine j)) lines-below
+        from = sym (map-map (ownLine j) (table.lineAt cl) (below n)) ∙ ap (map (ownLine j)) lines-below
 
     module _ (few : trades ≤ 128) where
-      total-is-due : (m : ℕ) → total (ownShares j m) ≡ due j m
-      unfolding ownShares ofTrade
-      total-is-due m =
-          rounds-give-as-many (ofTrade m (lines j)) (λ l mem. known-in-books j tr cl trades n b l (keep-sub _ (lines j) l mem) .claim-in-customers) (due j m) (due-at-most-claims j m)
-
       claims-small : (m : ℕ) → m < 128 → sum (claimsOf (ofTrade m (lines j))) ≤ largest
       unfolding lines
       claims-small m h = omega (arith, b .lined .sums m h, b .filing .small m h, b .filing .few)
@@ -220,7 +198,7 @@ module _ (j : Journal) (tr cl : List ℕ) (trades n : ℕ) (b : Books j tr cl tr
           let low : m < 128 = omega (arith, known-at i h .of-a-trade, b .traded .numbered) in
           let at = own-fill-at j m (p .place) (p .low) (ap (λ (x : Line). x .trade) (p .is)) in
           let same : ownFill j (lineAt (ofTrade m (lines j)) (p .place)) ≡ ownFill j (lineAt (lines j) i) = ap (ownFill j) (p .is) in
-          omega (arith, at, same, at-most-sum (fillsOf (ownShares j m)) (p .place), total-is-due m, due-at-most-claims j m, claims-small m low)
+          omega (arith, at, same, at-most-sum (fillsOf (ownShares j m)) (p .place), known-total-is-due j (known-in-books j tr cl trades n b) m, due-at-most-claims j m, claims-small m low)
 
       -- every number of our own sheet can be stored
       own-stores : Stores cl fills n

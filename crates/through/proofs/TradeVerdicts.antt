@@ -1,10 +1,9 @@
 -- Trades against the table of quotes: the exchanges traded through, counted one by one, and blocks.
 use mathlib.Core.Path.{_≡_, refl, sym, _∙_}
-use mathlib.Core.Bool.{Bool, true, false, not, _&&_, _||_}
+use mathlib.Core.Bool.{Bool, true, false, not, _||_, and-false, and-true}
 use mathlib.Core.List.{List, [], _∷_, _++_, append-nil}
 use Prim.Native.Nat.{ℕ, suc, _+_, _*_, _<_, _≤_}
 use native.Mathlib.Omega.{arith}
-use native.Mathlib.Nat.{mul-le-mul}
 use native.Mathlib.Numerals.{add-one}
 use mir.Val.{Fits}
 use mir.Syntax.{w64}
@@ -16,14 +15,15 @@ use Rattle.rules.specs.Record as paper
 use Rattle.rules.specs.Journal.{History}
 use Rattle.rules.specs.Prices.{standing, upTo, everyone, away, bestBid, bestOffer}
 use Rattle.rules.specs.Verdicts.{through, sideThrough, throughs, isBlock}
-use Rattle.rules.proofs.Tests.{byTest, and-no}
+use Rattle.rules.proofs.Tests.{byTest, keep-more}
 use Rattle.rows.specs.Rows.{Reads, TradeOk, RecOk}
 use Rattle.rows.specs.declared.Rec.{Rec}
+use Rattle.rows.proofs.Rows.{words-product-fits}
 use Rattle.quotes.specs.Tables.{Quoted}
 use Rattle.prices.specs.Prices.{aboveOf, bidOf, offerOf, PlaceIs, BidIs, OfferIs}
 use Rattle.through.specs.Trades.{SameTrade, throughOf, countsOf, formOf, TradeIs, CountIs, BlockIs, TradePlaced, BlockFound}
 use Rattle.through.specs.declared.Trade.{Trade}
-use Rattle.prices.proofs.BestPrices.{others, keep-more, bid-shown, offer-shown}
+use Rattle.prices.proofs.BestPrices.{others, bid-shown, offer-shown}
 
 -- ---- one exchange
 
@@ -115,12 +115,6 @@ module _ (q : List ℕ) (n home : ℕ) (t : Trade) where
 
 -- ---- blocks
 
-pub product-fits : (x y : ℕ) → x < 4294967296 → y < 4294967296 → Fits w64 (x * y)
-product-fits x y p q =
-    record {
-      fits = let hx : x ≤ 4294967295 = omega arith in let hy : y ≤ 4294967295 = omega arith in omega (arith, mul-le-mul hx hy);
-    }
-
 pub product-is : (a b x y : ℕ) → (x ≡ a) × (x < 4294967296) → (y ≡ b) × (y < 4294967296) → x * y ≡ a * b
 product-is a b x y p q = rw (p .0, q .0)
 
@@ -135,10 +129,6 @@ form-other f ne =
     (λ z. rw (eqb-true f 2 z))
     (λ z. let off = eqb-false f 2 z in
     byTest (leb 1 f) (λ u. rw (z, u) (sym (lt-leb f 2 (omega (arith, leb-true 1 f u))))) (λ u. rw (z, u)))
-
-and-yes : (a : Bool) → a ≡ (a && true)
-and-yes true = refl
-and-yes false = refl
 
 module _ (q : List ℕ) (n : ℕ) (t : Trade) where
   pub block-small : t .size < 500 → BlockIs q n t false
@@ -159,7 +149,7 @@ module _ (q : List ℕ) (n : ℕ) (t : Trade) where
             so = λ h past k en same held.
                 let w : g ≡ false = not-true g y in
                 rw (same .size, same .price, same .form, ← eg, w, ← ev, le-leb _ _ big, le-leb _ _ dear)
-                (sym (and-no (aboveOf (bestBid h (k .series) past) (t .price) || aboveOf (t .price) (bestOffer h (k .series) past))));
+                (sym (and-false (aboveOf (bestBid h (k .series) past) (t .price) || aboveOf (t .price) (bestOffer h (k .series) past))));
           }
 
       module _ (formed : not g ≡ false) (bb : ℕ) (eb : BidIs q n (t .series) bb) (b : Bool) (below : b ≡ aboveOf bb (t .price)) where
@@ -179,7 +169,7 @@ module _ (q : List ℕ) (n : ℕ) (t : Trade) where
               so = λ h past k en same held.
                   let w : g ≡ true = not-false g formed in
                   rw (same .size, same .price, same .series, same .form, ← eg, w, ← ev, le-leb _ _ big, le-leb _ _ dear, ← eb .so h past en held, ← eo .so h past en held, ← below, y, ← er)
-                  (and-yes r);
+                  (sym (and-true r));
             }
 
 -- ---- a record of any kind
@@ -223,4 +213,4 @@ module _ (q : List ℕ) (n : ℕ) (r : Rec) where
   pub block-found : (b : Bool) (t : Trade) → BlockIs q n t b → TradeIs r t → BlockFound q n r b
   block-found b t block is = record { so = λ h e past en reads held k. block .so h past (paper.trade e) en (trade-is r e reads t is) held }
 
-pub ruleset trade-laws = (through-bid, through-offer, through-not, counts-home, counts-none, counts-one, counted-none, counted-all, counted-more, counted-fits, product-fits, product-is, form-cross, form-other, block-small, block-cheap, block-formless, block-below, block-above, trade-series, block-none, block-found)
+pub ruleset trade-laws = (through-bid, through-offer, through-not, counts-home, counts-none, counts-one, counted-none, counted-all, counted-more, counted-fits, words-product-fits, product-is, form-cross, form-other, block-small, block-cheap, block-formless, block-below, block-above, trade-series, block-none, block-found)

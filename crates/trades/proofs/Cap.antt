@@ -1,6 +1,6 @@
 -- The cap: the exchanges looked at one by one are the exchanges traded through of the definition.
 use mathlib.Core.Path.{_≡_, refl, sym, ap, _∙_}
-use mathlib.Core.Bool.{Bool, true, false, not, _&&_, _||_}
+use mathlib.Core.Bool.{Bool, true, false, not, _&&_, _||_, or-false, or-true}
 use mathlib.Core.List.{List, [], _∷_, _++_}
 use Prim.Native.Nat.{ℕ, zero, suc, _+_, _-_, _*_, _<_, _≤_}
 use native.Mathlib.Omega.{arith}
@@ -14,29 +14,20 @@ use Rattle.rules.specs.Journal.{History}
 use Rattle.rules.specs.Prices.{upTo, everyone, away}
 use Rattle.rules.specs.Verdicts.{neither, sideThrough, throughs}
 use Rattle.rules.specs.Due.{customerFirmSize, capped}
-use Rattle.rules.proofs.Tests.{byTest, or-no}
+use Rattle.rules.proofs.Tests.{byTest, any-append, keep-append}
 use Rattle.orders.specs.Orders.{Headed, Heads}
 use Rattle.trades.specs.Trades.{cappedTo, caps, SidesAre, CapIs, NoCap}
 
 -- ---- one more at the end
 
-or-assoc : (a b c : Bool) → (a || (b || c)) ≡ ((a || b) || c)
-or-assoc true b c = refl
-or-assoc false b c = refl
-
 module _ (f g k : ℕ → Bool) where
-  any-kept-snoc : (l : List ℕ) (x : ℕ) → any f (keep g (keep k (l ++ (x ∷ [])))) ≡ (any f (keep g (keep k l)) || (k x && g x && f x))
+  any-kept-one : (x : ℕ) → any f (keep g (keep k (x ∷ []))) ≡ (k x && g x && f x)
   unfolding any keep
-  any-kept-snoc [] x =
-      byTest (k x)
-      (λ p. byTest (g x) (λ q. rw (p, q) (or-no (f x))) (λ q. rw (p, q)))
-      (λ p. rw p)
-  any-kept-snoc (y ∷ l) x =
-      byTest (k y)
-      (λ p. byTest (g y)
-      (λ q. rw (p, q, any-kept-snoc l x) (or-assoc (f y) (any f (keep g (keep k l))) (k x && g x && f x)))
-      (λ q. rw (p, q) (any-kept-snoc l x)))
-      (λ p. rw p (any-kept-snoc l x))
+  any-kept-one x = byTest (k x) (λ p. byTest (g x) (λ q. rw (p, q) (or-false (f x))) (λ q. rw (p, q))) (λ p. rw p)
+
+  any-kept-more : (l : List ℕ) (x : ℕ) → any f (keep g (keep k (l ++ (x ∷ [])))) ≡ (any f (keep g (keep k l)) || (k x && g x && f x))
+  any-kept-more l x =
+      rw (keep-append k l (x ∷ []), keep-append g (keep k l) (keep k (x ∷ [])), any-append f (keep g (keep k l)) (keep g (keep k (x ∷ []))), any-kept-one x)
 
 -- ---- the header's sizes
 
@@ -54,7 +45,7 @@ module _ (h : Header) (before : History) (t : Trade) where
   cap-more : (i : ℕ) → cappedTo h before t (i + 1)
       ≡ (cappedTo h before t i || (not (i + 1 == h .home) && not (sideThrough before t (i + 1) == neither) && t .size moreThan customerFirmSize h (i + 1)))
   unfolding cappedTo upTo
-  cap-more i = rw (add-one i) (any-kept-snoc _ _ _ (upTo i) (suc i))
+  cap-more i = rw (add-one i) (any-kept-more _ _ _ (upTo i) (suc i))
 
   cap-grows : (i k : ℕ) → cappedTo h before t i ≡ true → cappedTo h before t (i + k) ≡ true
   cap-grows i zero p = rw (let z : i + 0 ≡ i = omega arith in z) p
@@ -106,13 +97,9 @@ module _ (sn : List ℕ) (n home exchanges : ℕ) (sizes : List ℕ) (size : ℕ
           record {
             so =
                 λ h before t is sides es.
-                let here : cappedTo h before t (i + 1) ≡ true = cap-step h before t is sides es ∙ rw p (or-yes (cappedTo h before t i)) in
+                let here : cappedTo h before t (i + 1) ≡ true = cap-step h before t is sides es ∙ rw p (or-true (cappedTo h before t i)) in
                 let z : h .exchanges ≡ i + 1 + (exchanges - (i + 1)) = is .exchanges ∙ omega arith in
                 sym (cap-is h before t ∙ ap (cappedTo h before t) z ∙ cap-grows h before t (i + 1) (exchanges - (i + 1)) here);
           }
-        where
-          or-yes : (a : Bool) → (a || true) ≡ true
-          or-yes true = refl
-          or-yes false = refl
 
 pub ruleset cap-laws = (no-cap-yet, no-cap, no-cap-more, cap-found)

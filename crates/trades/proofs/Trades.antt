@@ -144,7 +144,4 @@ record-placed exchanges home n r ok few room =
 -- the start
 pub trades-none : (h : Header) (tr sn : List ℕ) → Traded h [] tr sn 0
 unfolding count keep
-trades-none h tr sn = record { numbered = refl; rows = λ m i hm hi. none m hm; snaps = λ m y i hm hy hi. none m hm }
-  where
-    none : {A : Type 0} (m : ℕ) → m < 0 → A
-    none m h = let z : ⊥ = omega arith in elim z [ ]
+trades-none h tr sn = record { numbered = refl; rows = λ m i hm hi. absurd (omega arith); snaps = λ m y i hm hy hi. absurd (omega arith) }

@@ -1,10 +1,9 @@
 -- The tests of the code on single words, one law for each way out.
 use mathlib.Core.Path.{_≡_}
-use mathlib.Core.Bool.{false, not}
+use mathlib.Core.Bool.{false, not, and-false}
 use Prim.Native.Nat.{ℕ, min}
 use lib.Dec.{eqb, ltb}
 use borrow.Author.Tests.{eq-eqb, ne-eqb}
-use Rattle.rules.proofs.Tests.{and-no}
 use Rattle.trades.specs.Trades.{priceOn, customersOn, excusingSide, caps}
 
 module _ (side a b : ℕ) where
@@ -43,7 +42,7 @@ module _ (x home side size ours theirs : ℕ) where
 
   pub not-through-caps-not : side ≡ 0 → false ≡ caps x home side size ours theirs
   unfolding caps
-  not-through-caps-not p = rw (eq-eqb side 0 p, and-no (not (eqb x home)))
+  not-through-caps-not p = rw (eq-eqb side 0 p, and-false (not (eqb x home)))
 
   pub larger-caps : (x ≡ home → ⊥) → (side ≡ 0 → ⊥) → (l : ℕ) → l ≡ min ours theirs → ltb l size ≡ caps x home side size ours theirs
   unfolding caps
