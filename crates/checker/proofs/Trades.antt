@@ -20,8 +20,8 @@ use Rattle.rules.proofs.Lines.{lines-known}
 use Rattle.claims.specs.Lines.{lineAt, linesFrom, manyOf, tradeLines, Gathered, DueIs}
 use Rattle.claims.specs.Books.{Books}
 use Rattle.claims.proofs.TradeLines.{trade-findable, gathered-lines}
-use Rattle.sharing.specs.Lines as sharing
-use Rattle.sharing.proofs.Gathering.{known-line-sound}
+use Rattle.fairness.specs.Lines as fairness
+use Rattle.fairness.proofs.Lines.{known-line-sound}
 use Rattle.checker.specs.declared.Checked.{Checked}
 use Rattle.checker.specs.declared.Checked.the-variants.{Accepted, Refused}
 use Rattle.checker.specs.Said.{each, saidLine, besides, fillOn, FillsGathered}
@@ -73,7 +73,7 @@ unfolding sharesOf ofTrade
 shares-with said m ls =
     ap (keep (λ (a : Share). a .line .trade == m)) (as-shares said ls) ∙ keep-map (λ (a : Share). a .line .trade == m) (filledAs said) ls
 
-lines-filled : (said : List ℕ) (ls : List Line) → sharing.linesIn (map (filledAs said) ls) ≡ ls
+lines-filled : (said : List ℕ) (ls : List Line) → fairness.linesIn (map (filledAs said) ls) ≡ ls
 lines-filled said ls = map-map _ (filledAs said) ls ∙ map-id ls
 
 fills-filled : (said : List ℕ) (ls : List Line) → fillsOf (map (filledAs said) ls) ≡ map (fillOn said) ls
@@ -88,14 +88,14 @@ module _ (j : Journal) (tr cl : List ℕ) (trades n : ℕ) (b : Books j tr cl tr
     trade-shares : sharesOf m (besides cl said n) ≡ map (filledAs said) (ofTrade m (lines j))
     trade-shares = ap (sharesOf m) besides-with ∙ shares-with said m (lines j)
 
-    within : checkLines (besides cl said n) ≡ ok tt → sharing.WithinClaims (sharesOf m (besides cl said n))
+    within : checkLines (besides cl said n) ≡ ok tt → fairness.WithinClaims (sharesOf m (besides cl said n))
     unfolding sharesOf
     within e a mem =
         map-all (λ (x : Share). x .filled ≤ x .line .claim) asShare (besides cl said n) (lines-within (besides cl said n) e) a
         (keep-sub (λ (x : Share). x .line .trade == m) (map asShare (besides cl said n)) a mem)
 
     module _ (hm : m < 128) (claim customers : List ℕ) (k : ℕ) (g : Gathered cl m claim customers k) where
-      lined : sharing.Lined (ofTrade m (lines j)) claim customers k
+      lined : fairness.Lined (ofTrade m (lines j)) claim customers k
       unfolding lines
       lined =
           let l = gathered-lines (j .header) (j .history) cl n m claim customers k hm (b .lined) g in
@@ -111,12 +111,12 @@ module _ (j : Journal) (tr cl : List ℕ) (trades n : ℕ) (b : Books j tr cl tr
             customer-words = g .customer-words;
           }
 
-      shares-gathered : (fill : List ℕ) → FillsGathered cl said m fill → sharing.Gathered (sharesOf m (besides cl said n)) claim customers fill k
+      shares-gathered : (fill : List ℕ) → FillsGathered cl said m fill → fairness.Gathered (sharesOf m (besides cl said n)) claim customers fill k
       shares-gathered fill f =
           let its : tradeLines cl m (manyOf cl m) ≡ ofTrade m (lines j) = unfold lines in b .lined .by-trade m hm in
-          subst (λ (ss : List Share). sharing.Gathered ss claim customers fill k) (sym trade-shares)
+          subst (λ (ss : List Share). fairness.Gathered ss claim customers fill k) (sym trade-shares)
           (record {
-            lined = subst (λ (ls : List Line). sharing.Lined ls claim customers k) (sym (lines-filled said (ofTrade m (lines j)))) lined;
+            lined = subst (λ (ls : List Line). fairness.Lined ls claim customers k) (sym (lines-filled said (ofTrade m (lines j)))) lined;
             fills =
                 rw (g .many)
                 (f .fills ∙ ap (map (fillOn said)) its ∙ sym (fills-filled said (ofTrade m (lines j))));
@@ -148,7 +148,7 @@ module _ (cl tr : List ℕ) (n : ℕ) (said : List ℕ) (m : ℕ) (hm : m < 128)
     due-is : wide ≡ due j m
     due-is = ed ∙ di .so (j .header) (j .history) (b .snaps) trades n lt hm (b .traded) (b .lined)
 
-    rule-is : checkLines (besides cl said n) ≡ ok tt → (kept : Bool) → sharing.RuleAnswered claim customers fill k kept
+    rule-is : checkLines (besides cl said n) ≡ ok tt → (kept : Bool) → fairness.RuleAnswered claim customers fill k kept
         → kept ≡ shareRule (sharesOf m (besides cl said n))
     rule-is e kept a =
         a .is (sharesOf m (besides cl said n)) (shares-gathered j tr cl trades n b said m hm claim customers k g fill f) (within j tr cl trades n b said m e)
@@ -163,7 +163,7 @@ module _ (cl tr : List ℕ) (n : ℕ) (said : List ℕ) (m : ℕ) (hm : m < 128)
             total-missed j (besides cl said n) m (λ z. q (p ∙ z ∙ sym r));
       }
 
-  module _ (q : filled ≡ wide) (kept : Bool) (a : sharing.RuleAnswered claim customers fill k kept) where
+  module _ (q : filled ≡ wide) (kept : Bool) (a : fairness.RuleAnswered claim customers fill k kept) where
     pub trade-rule-broken : not kept ≡ true → TradeChecked cl tr n said m (Refused shareRuleBroken m)
     trade-rule-broken h =
         record {

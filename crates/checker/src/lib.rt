@@ -189,7 +189,7 @@ fn gather_fills(cl: &[u32; 6144], n: usize, said: &[u32; 1536], m: usize, fill: 
 }
 
 // 25, 26. The amount due is the tables' own. Fills and customer contracts are words, so that their products have room in 64 bits:
-// `sharing` takes them there.
+// `fairness` takes them there.
 fn check_trade(
     cl: &[u32; 6144],
     tr: &[u32; 1024],
@@ -205,7 +205,7 @@ fn check_trade(
     let mut fill = [0u32; 8];
     let k = claims::gather(cl, m, &mut claim, &mut customers);
     gather_fills(cl, n, said, m, &mut fill);
-    let filled = sharing::total(&fill, k);
+    let filled = fairness::total(&fill, k);
     let due = rows::wide(claims::due_total(cl, tr, m));
     if filled != due {
         return Checked::Refused {
@@ -213,7 +213,7 @@ fn check_trade(
             place: m,
         };
     }
-    if !sharing::keeps_rule(&claim, &customers, &fill, k) {
+    if !fairness::keeps_rule(&claim, &customers, &fill, k) {
         return Checked::Refused {
             no: Refusal::SHARE_RULE_BROKEN,
             place: m,

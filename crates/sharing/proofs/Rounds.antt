@@ -15,9 +15,8 @@ use Rattle.rules.specs.SheetCheck.{fillsOf}
 use Rattle.rules.proofs.Tests.{byTest, and-right, and-make, when-true, when-make, all-at, all-make}
 use Rattle.rules.proofs.Giving.{total, claims, Within}
 use Rattle.rules.proofs.OwnSheet.{rounds-give-as-many, atFirst-lines, give-lines, empty-lines, claims-lines, give-given}
-use Rattle.sharing.specs.Lines.{linesIn}
-use Rattle.sharing.specs.Turns.{shareAt}
-use Rattle.sharing.proofs.Places.{member-at, by-places}
+use Rattle.fairness.specs.Lines.{linesIn, shareAt}
+use Rattle.fairness.proofs.Places.{member-at, by-places}
 
 -- ---- the first line that a test picks
 

@@ -12,10 +12,10 @@ use Rattle.rules.specs.OwnSheet.{giveOne, give, empty}
 use Rattle.rules.specs.SheetCheck.{fillsOf}
 use Rattle.rules.proofs.OwnSheet.{empty-lines}
 use Rattle.sharing.specs.declared.Turn.{Turn}
-use Rattle.sharing.specs.Lines.{Lined, Gathered, SharedOut}
-use Rattle.sharing.specs.Turns.{at, Least, Nobody, Found, nobody, least, Scanning, NextTurn, Given, Giving, Copied, shareAt}
+use Rattle.fairness.specs.Lines.{Lined, Gathered, at, shareAt}
+use Rattle.sharing.specs.Turns.{Least, Nobody, Found, nobody, least, Scanning, NextTurn, Given, Giving, Copied, SharedOut}
 use Rattle.sharing.proofs.Turns.{scanning-none, scanning-more}
-use Rattle.sharing.proofs.Places.{gathered-many, fill-at, claim-at, customers-at, gathered-served}
+use Rattle.fairness.proofs.Places.{gathered-many, fill-at, claim-at, customers-at, gathered-served}
 use Rattle.sharing.proofs.Rounds.{round-gives, round-over, rounds-over, round-keeps-lines, all-claims-due-fills-every-claim}
 
 -- ---- the turn found is the round's

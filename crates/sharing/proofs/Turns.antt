@@ -10,7 +10,8 @@ use borrow.Author.Tests.{ltb-true, ltb-false, lt-ltb, le-ltb}
 use borrow.Author.Count.{below-more}
 use Rattle.rules.proofs.Tests.{byTest}
 use Rattle.sharing.specs.declared.Turn.{Turn}
-use Rattle.sharing.specs.Turns.{at, soonerOf, Least, Nobody, Found, nobody, least, Served, Scanning}
+use Rattle.fairness.specs.Lines.{at, Served}
+use Rattle.sharing.specs.Turns.{soonerOf, Least, Nobody, Found, nobody, least, Scanning}
 use Rattle.rows.proofs.Rows.{words-product-fits}
 
 -- ---- the better of two

@@ -1,25 +1,17 @@
--- Whose turn it is to get a contract, and what the steps of sharing out and of the share rule do to the words.
+-- Whose turn it is to get a contract, what the steps of sharing out do to the words, and the shares of our own sheet.
 use mathlib.Core.Path.{_≡_}
-use mathlib.Core.Bool.{Bool, true, not, _&&_}
-use mathlib.Core.List.{List}
+use mathlib.Core.Bool.{_&&_}
+use mathlib.Core.List.{List, map}
 use Prim.Native.Nat.{ℕ, _+_, _*_, _<_, _≤_}
-use lib.ListN.{getD, length, take, drop, set}
-use Rattle.rules.specs.Basics.{if_then_else_, _lessThan_, sum}
-use Rattle.rules.specs.Due.{Line, Share, fair}
-use Rattle.rules.specs.OwnSheet.{give, giveOne}
+use lib.ListN.{length, take, drop, set}
+use Rattle.rules.specs.Basics.{if_then_else_, _lessThan_}
+use Rattle.rules.specs.Due.{Line, Share}
+use Rattle.rules.specs.OwnSheet.{give, giveOne, empty}
 use Rattle.rules.specs.SheetCheck.{fillsOf}
 use Rattle.sharing.specs.declared.Turn.{Turn}
-use Rattle.sharing.specs.Lines.{Gathered}
+use Rattle.fairness.specs.Lines.{Lined, Gathered, at, Served}
 
-abbrev pub at : List ℕ → ℕ → ℕ
-at l i = getD l i 0
-
--- ---- the first words: summed, copied
-
-pub record Summing (words : List ℕ) (k i sum-so-far : ℕ) : Type 0 where
-  pub is : sum-so-far ≡ sum (take i words)
-  pub small : sum-so-far ≤ i * 4294967295
-  pub low : i ≤ k
+-- ---- the first words copied
 
 pub record Copied (from : List ℕ) (k : ℕ) (before after : List ℕ) : Type 0 where
   pub first : take k after ≡ take k from
@@ -56,9 +48,6 @@ pub data Found (claim customers fill : List ℕ) (k seen : ℕ) (t : Turn) : Typ
   nobody : Nobody claim fill k seen t → Found claim customers fill k seen t
   least : Least claim customers fill seen t → Found claim customers fill k seen t
 
-abbrev pub Served : List ℕ → List ℕ → ℕ → Type 0
-Served claim customers k = (i : ℕ) → i < k → at claim i ≤ at customers i
-
 pub record Scanning (claim customers fill : List ℕ) (k i : ℕ) (t : Turn) : Type 0 where
   pub found : Served claim customers k → Found claim customers fill k i t
   pub line-low : t .line ≤ k
@@ -79,25 +68,9 @@ pub record Giving (claim customers : List ℕ) (k contracts : ℕ) (before fill 
   pub so-far : Given claim customers k given before fill
   pub low : given ≤ contracts
 
--- ---- the share rule
+-- ---- the shares
 
-pub record Breaks (fill claim customers other-fill other-customers : ℕ) (broken : Bool) : Type 0 where
-  pub is : (a b : Share) → a .filled ≡ fill → a .line .claim ≡ claim → a .line .customers ≡ customers
-      → b .filled ≡ other-fill → b .line .customers ≡ other-customers → broken ≡ not (fair a b)
-
-abbrev pub noLine : Line
-noLine = record { number = 0; trade = 0; size = 0; reason = 0; customers = 0; claim = 0 }
-
-abbrev pub noShare : Share
-noShare = record { line = noLine; filled = 0 }
-
-abbrev pub shareAt : List Share → ℕ → Share
-shareAt ss i = getD ss i noShare
-
--- the lines below i are fair to every line, line i to the lines below j
-pub record FairSoFar (claim customers fill : List ℕ) (k i j : ℕ) (kept : Bool) : Type 0 where
-  pub still : kept ≡ true
-  pub lines : (ss : List Share) → Gathered ss claim customers fill k → (a b : ℕ) → a < i → b < k → fair (shareAt ss a) (shareAt ss b) ≡ true
-  pub line : (ss : List Share) → Gathered ss claim customers fill k → (b : ℕ) → b < j → fair (shareAt ss i) (shareAt ss b) ≡ true
-  pub low : i ≤ k
-  pub others-low : j ≤ k
+-- the shares of our own sheet; the words after them are those that were lent
+pub record SharedOut (claim customers : List ℕ) (k due : ℕ) (before after : List ℕ) : Type 0 where
+  pub shares : (ls : List Line) → Lined ls claim customers k → take k after ≡ fillsOf (give due (map empty ls))
+  pub others : drop k after ≡ drop k before

@@ -1,25 +1,8 @@
-// One trade's lines: how what is due is shared out among them, and whether a sheet's fills keep the share rule.
-// A trade has at most one line for each other exchange, so its claims, customer contracts and fills are the first k words of eight.
+// How what is due on a trade is shared out among its lines, which are the first k words of eight, as in `fairness`.
 ghost use mathlib.Core.Path.{_≡_};
 ghost use Prim.Native.Nat.{_≤_};
-ghost use lib.ListN.{length, take};
-ghost use Rattle.rules.specs.Basics.{sum};
-ghost use Rattle.sharing.specs.Lines.{SharedOut, RuleAnswered};
-ghost use Rattle.sharing.specs.Turns.{Copied, soonerOf, NextTurn, Given, Breaks};
-
-// The sum of the first k words.
-pub fn total(words: &[u32; 8], k: usize) -> u64
-    requires { ⌜ k ≤ 8 ⌝ }
-    ensures { λ r. ⌜ r ≡ sum (take k (now (words .entry))) ⌝ }
-{
-    let mut sum: u64 = 0;
-    let mut i: usize = 0;
-    while i < k {
-        sum += rows::wide(words[i]);
-        i += 1;
-    }
-    sum
-}
+ghost use lib.ListN.{length};
+ghost use Rattle.sharing.specs.Turns.{Copied, soonerOf, NextTurn, Given, SharedOut};
 
 // The line that the next contract goes to: its number, its fill with that contract, its customer contracts.
 struct Turn {
@@ -106,42 +89,11 @@ pub fn share_out(claim: &[u32; 8], customers: &[u32; 8], k: usize, due: u64, fil
     requires { ⌜ k ≤ 8 ⌝ }
     ensures { λ _. ⌜ SharedOut (now (claim .entry)) (now (customers .entry)) k due (now (fill .entry)) (now (fill .exit)) ⌝ }
 {
-    if due == total(claim, k) {
+    if due == fairness::total(claim, k) {
         copy_first(claim, k, fill);
         return;
     }
     let none = [0u32; 8];
     copy_first(&none, k, fill);
     give_in_turn(claim, customers, k, due, fill);
-}
-
-// Whether the first line, filled below its claim, has too little beside the second.
-fn breaks(fill: u32, claim: u32, customers: u32, fill2: u32, customers2: u32) -> bool
-    ensures { λ r. ⌜ Breaks fill claim customers fill2 customers2 r ⌝ }
-{
-    if claim <= fill {
-        return false;
-    }
-    rows::wide(fill + 1) * rows::wide(customers2) < rows::wide(fill2) * rows::wide(customers)
-}
-
-// The share rule, "for any two lines of a trade": the checker "stops at the first pair of lines that breaks" it.
-pub fn keeps_rule(claim: &[u32; 8], customers: &[u32; 8], fill: &[u32; 8], k: usize) -> bool
-    requires { ⌜ k ≤ 8 ⌝ }
-    ensures { λ r. ⌜ RuleAnswered (now (claim .entry)) (now (customers .entry)) (now (fill .entry)) k r ⌝ }
-{
-    let mut kept = true;
-    let mut i: usize = 0;
-    'lines: while i < k {
-        let mut j: usize = 0;
-        while j < k {
-            if breaks(fill[i], claim[i], customers[i], fill[j], customers[j]) {
-                kept = false;
-                break 'lines;
-            }
-            j += 1;
-        }
-        i += 1;
-    }
-    kept
 }

@@ -16,8 +16,9 @@ use Rattle.rules.proofs.Tests.{byTest, keep-sub, by-place}
 use Rattle.rules.proofs.Below.{at-below}
 use Rattle.rules.proofs.Lines.{LineKnown, lines-known}
 use Rattle.rules.proofs.ByTrade.{lines-numbered-from-0, line-among-its-trade, trade-line-among-all, trade-lines-differ, own-fill-at}
-use Rattle.sharing.specs.Lines.{Lined, SharedOut}
-use Rattle.sharing.proofs.Gathering.{known-line-sound}
+use Rattle.fairness.specs.Lines.{Lined}
+use Rattle.fairness.proofs.Lines.{known-line-sound}
+use Rattle.sharing.specs.Turns.{SharedOut}
 use Rattle.claims.specs.Lines as table
 use Rattle.claims.specs.Lines.{numberAt, manyOf, tradeLines, Filing, Findable, NumberIs, Gathered, DueIs}
 use Rattle.claims.specs.Books.{Books}

@@ -7,8 +7,7 @@ use lib.ListN.{getD, length, length-map, List·getD-map}
 use lib.Seq.{getD-take}
 use Rattle.rules.specs.Due.{Line, Share}
 use Rattle.rules.proofs.Tests.{on-cons}
-use Rattle.sharing.specs.Lines.{Sound, linesIn, Gathered}
-use Rattle.sharing.specs.Turns.{at, Served, shareAt, noLine, noShare}
+use Rattle.fairness.specs.Lines.{Sound, linesIn, Gathered, at, Served, shareAt, noLine, noShare}
 
 -- ---- a list of shares by its places
 

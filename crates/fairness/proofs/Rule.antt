@@ -14,10 +14,10 @@ use Rattle.rules.specs.Due.{Share, fair, shareRule}
 use Rattle.rules.proofs.Tests.{byTest, and-left, and-right}
 use Rattle.rules.proofs.Giving.{Fair, fair-says, says-fair}
 use Rattle.rules.proofs.OwnSheet.{fair-shares-keep-the-rule}
-use Rattle.sharing.specs.Lines.{Gathered, WithinClaims, RuleAnswered}
-use Rattle.sharing.specs.Turns.{at, Breaks, shareAt, FairSoFar}
+use Rattle.fairness.specs.Lines.{Gathered, WithinClaims, RuleAnswered, at, shareAt}
+use Rattle.fairness.specs.Pairs.{Breaks, FairSoFar}
 use Rattle.rows.proofs.Rows.{words-product-fits}
-use Rattle.sharing.proofs.Places.{member-at, by-places, gathered-many, fill-at, claim-at, customers-at, sound-at}
+use Rattle.fairness.proofs.Places.{member-at, by-places, gathered-many, fill-at, claim-at, customers-at, sound-at}
 
 -- ---- one pair
 

@@ -1,10 +1,10 @@
 -- `total`: the sum of the words passed.
 use Prim.Native.Nat.{_-_}
-use Rattle.sharing.specs.Turns.{Summing}
-use Rattle.sharing.proofs.Words.{sum-laws}
+use Rattle.fairness.specs.Pairs.{Summing}
+use Rattle.fairness.proofs.Words.{sum-laws}
 use borrow.Author.Needs.{needs}
-use Rattle.sharing.proofs.total.Statement.{statement}
-use Rattle.sharing.proofs.total.Tie as tie
+use Rattle.fairness.proofs.total.Statement.{statement}
+use Rattle.fairness.proofs.total.Tie as tie
 
 abbrev Inv-loop : tie.InvT-loop
 Inv-loop words k sum₀ i₀ sum i = Summing words k i sum

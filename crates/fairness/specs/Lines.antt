@@ -1,12 +1,11 @@
--- One trade's lines as the first k words of small arrays, and what is promised of them: the shares, the share rule.
+-- One trade's lines as the first k words of small arrays, and the share rule among them.
 use mathlib.Core.Path.{_≡_}
 use mathlib.Core.Bool.{Bool, false}
 use mathlib.Core.List.{List, map, List·Memᴰ}
-use Prim.Native.Nat.{ℕ, _≤_}
-use lib.ListN.{length, take, drop}
-use Rattle.rules.specs.Basics.{_==_, sum}
-use Rattle.rules.specs.Due.{Line, claimsOf, dueOf, Share, shareRule}
-use Rattle.rules.specs.OwnSheet.{give, empty}
+use Prim.Native.Nat.{ℕ, _<_, _≤_}
+use lib.ListN.{getD, length, take}
+use Rattle.rules.specs.Basics.{_==_}
+use Rattle.rules.specs.Due.{Line, claimsOf, Share, shareRule}
 use Rattle.rules.specs.SheetCheck.{fillsOf}
 
 -- ---- what the arrays hold
@@ -41,12 +40,24 @@ pub record Gathered (ss : List Share) (claim customers fill : List ℕ) (k : ℕ
 abbrev pub WithinClaims : List Share → Type 0
 WithinClaims ss = (a : Share) → List·Memᴰ a ss → a .filled ≤ a .line .claim
 
--- ---- what is promised
+-- ---- a line by its place
 
--- the shares of our own sheet; the words after them are those that were lent
-pub record SharedOut (claim customers : List ℕ) (k due : ℕ) (before after : List ℕ) : Type 0 where
-  pub shares : (ls : List Line) → Lined ls claim customers k → take k after ≡ fillsOf (give due (map empty ls))
-  pub others : drop k after ≡ drop k before
+abbrev pub at : List ℕ → ℕ → ℕ
+at l i = getD l i 0
+
+abbrev pub noLine : Line
+noLine = record { number = 0; trade = 0; size = 0; reason = 0; customers = 0; claim = 0 }
+
+abbrev pub noShare : Share
+noShare = record { line = noLine; filled = 0 }
+
+abbrev pub shareAt : List Share → ℕ → Share
+shareAt ss i = getD ss i noShare
+
+abbrev pub Served : List ℕ → List ℕ → ℕ → Type 0
+Served claim customers k = (i : ℕ) → i < k → at claim i ≤ at customers i
+
+-- ---- what is promised
 
 pub record RuleAnswered (claim customers fill : List ℕ) (k : ℕ) (kept : Bool) : Type 0 where
   pub is : (ss : List Share) → Gathered ss claim customers fill k → WithinClaims ss → kept ≡ shareRule ss

@@ -1,10 +1,10 @@
 -- `keeps_rule`: the pairs passed are fair, up to the first that is not.
 use Prim.Native.Nat.{_-_}
-use Rattle.sharing.specs.Turns.{FairSoFar}
-use Rattle.sharing.proofs.Rule.{rule-laws}
+use Rattle.fairness.specs.Pairs.{FairSoFar}
+use Rattle.fairness.proofs.Rule.{rule-laws}
 use borrow.Author.Needs.{needs}
-use Rattle.sharing.proofs.keeps_rule.Statement.{statement}
-use Rattle.sharing.proofs.keeps_rule.Tie as tie
+use Rattle.fairness.proofs.keeps_rule.Statement.{statement}
+use Rattle.fairness.proofs.keeps_rule.Tie as tie
 
 abbrev Inv-loop : tie.InvT-loop
 Inv-loop claim customers fill k kept₀ i j₀ kept j = FairSoFar claim customers fill k i j kept

@@ -1,8 +1,8 @@
 -- `breaks`: one law for each way out; each product of two words fits.
-use Rattle.sharing.proofs.Rule.{breaks-laws}
+use Rattle.fairness.proofs.Rule.{breaks-laws}
 use borrow.Author.Needs.{needs}
-use Rattle.sharing.proofs.breaks.Statement.{statement}
-use Rattle.sharing.proofs.breaks.Tie as tie
+use Rattle.fairness.proofs.breaks.Statement.{statement}
+use Rattle.fairness.proofs.breaks.Tie as tie
 
 returns : tie.Need-returns
 returns c = search (breaks-laws, needs)
