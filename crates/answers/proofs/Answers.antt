@@ -18,7 +18,8 @@ use Rattle.journal.specs.Entries.{leftBy}
 use Rattle.journal.specs.declared.Rewritten.{Rewritten}
 use Rattle.journal.specs.declared.Rewritten.the-variants.{Written as Wrote, Unwritten}
 use Rattle.claims.specs.Lines.{Filing}
-use Rattle.list.specs.Listing.{mostRows, listWords, Prints}
+use Rattle.list.specs.Listing.{mostRows, listWords}
+use Rattle.printed.specs.Printing.{Prints}
 use Rattle.survey.specs.Survey.{Told, SurveyedAs}
 use Rattle.survey.specs.declared.Surveyed.{Surveyed}
 use Rattle.survey.specs.declared.Surveyed.the-variants.{Whole, Stopped}

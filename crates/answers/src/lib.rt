@@ -42,7 +42,7 @@ fn print_whole(
 {
     let mut fills = [0u32; 512];
     sheet::own_fills(cl, tr, trades, lines, &mut fills);
-    answered(list::print(rows, listed, cl, &fills, lines, out))
+    answered(printed::print(rows, listed, cl, &fills, lines, out))
 }
 
 // "a list, each line ended by LF": the verdict on every event. The journal's refusal, then 9.

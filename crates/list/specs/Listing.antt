@@ -1,28 +1,23 @@
 -- The day's list as rows: five words for each line that will be printed, its event, its letter as a byte, a, b and c.
 -- Of a Satisfaction Order a is the number of its line: what stands there in our own sheet is looked up when the list is printed.
 use mathlib.Core.Path.{_≡_}
-use mathlib.Core.List.{List, _∷_, _++_, map, flatMap}
-use Prim.Native.Nat.{ℕ, _+_, _-_, _*_, _%_, _<_, _≤_}
+use mathlib.Core.List.{List, _∷_, _++_, flatMap}
+use Prim.Native.Nat.{ℕ, _+_, _*_, _%_, _<_, _≤_}
 use lib.ListN.{getD, length}
 use Rattle.rules.specs.Basics.{if_then_else_, _==_, below}
 use Rattle.rules.specs.Header.{Header}
 use Rattle.rules.specs.Record.{Event, isTrade, isSent, isSatisfaction}
-use Rattle.rules.specs.Journal.{History, Journal, count}
+use Rattle.rules.specs.Journal.{History, count}
 use Rattle.rules.specs.OwnSheet.{SheetLine}
 use Rattle.rules.specs.GoodSheet.{saidAt}
-use Rattle.rules.specs.PrintedDay.{printedLine, listed, dayText}
-use Rattle.rules.specs.Writing.{into, lentAfter}
+use Rattle.rules.specs.PrintedDay.{printedLine, listed}
 use Rattle.rows.specs.Rows.{Reads}
 use Rattle.rows.specs.declared.Rec.{Rec}
-use Rattle.text.specs.Lent.{asAnswer, counted}
 use Rattle.text.specs.Lines.{lineOf}
-use Rattle.text.specs.declared.Written.{Written}
 use Rattle.quotes.specs.Tables.{Quoted, Statuses}
 use Rattle.orders.specs.Orders.{Heads}
 use Rattle.market.specs.Judged.{judgedAs}
 use Rattle.market.specs.declared.Judged.{Judged}
-use Rattle.claims.specs.Books.{Books, OwnFilled}
-use Rattle.list.specs.declared.Shown.{Shown}
 
 -- no journal has more records: each takes four bytes at least
 abbrev pub mostRows : ℕ
@@ -92,27 +87,3 @@ pub record Noted (list : List ℕ) (n : ℕ) (q st : List ℕ) (exchanges home :
       → n < mostRows → length list ≡ listWords → Listing h past list n → Listing h (e ∷ past) list2 n2
   pub long : length list2 ≡ length list
   pub more : n2 ≤ n + 1
-
--- ---- our own sheet, as the tables of lines and of fills have it
-
-abbrev pub tableLine : List ℕ → List ℕ → ℕ → SheetLine
-tableLine cl fills k =
-    record { reason = getD cl (k * 8 + 2) 0; filled = getD fills k 0; cancelled = getD cl (k * 8 + 1) 0 - getD fills k 0 }
-
-unfoldable pub sheetFrom : List ℕ → List ℕ → ℕ → List SheetLine
-sheetFrom cl fills n = map (tableLine cl fills) (below n)
-
--- ---- the list printed
-
-abbrev pub shownText : Shown → List ℕ
-shownText s = lineOf (s .event) (s .what) (s .a) (s .b) (s .c)
-
-pub record OrderShown (own : List SheetLine) (event line : ℕ) (r : Shown) : Type 0 where
-  pub says : shownText r ≡ orderText event (saidAt own line)
-
-pub record RowShown (own : List SheetLine) (list : List ℕ) (i : ℕ) (r : Shown) : Type 0 where
-  pub says : shownText r ≡ rowText own list i
-
-pub record Prints (list : List ℕ) (n : ℕ) (cl fills : List ℕ) (lines : ℕ) (before : List ℕ) (r : Written) (after : List ℕ) : Type 0 where
-  pub so : (j : Journal) (tr : List ℕ) (trades : ℕ) → Books j tr cl trades lines → OwnFilled j fills → Listing (j .header) (j .history) list n
-      → (asAnswer r ≡ counted (into (length before) (dayText j))) × (after ≡ lentAfter (into (length before) (dayText j)) before)

@@ -5,7 +5,7 @@ use Rattle.answers.proofs.print_whole.Tie as tie
 use Rattle.answers.proofs.print_whole.Reads as reads
 use Rattle.answers.proofs.print_whole.Lts as lts
 use Rattle.answers.proofs.answered.Reads as answered-reads
-use Rattle.list.proofs.print.Reads as print-reads
+use Rattle.printed.proofs.print.Reads as print-reads
 use Rattle.sheet.proofs.own_fills.Reads as own-fills-reads
 
 own-fills-requires : tie.Need-own-fills-requires

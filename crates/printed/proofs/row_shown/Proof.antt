@@ -1,8 +1,8 @@
 -- `row_shown` meets its contract: each need by the laws of this crate.
-use Rattle.list.proofs.Printing.{shown-laws}
+use Rattle.printed.proofs.Printing.{shown-laws}
 use borrow.Author.Needs.{needs}
-use Rattle.list.proofs.row_shown.Statement.{statement}
-use Rattle.list.proofs.row_shown.Tie as tie
+use Rattle.printed.proofs.row_shown.Statement.{statement}
+use Rattle.printed.proofs.row_shown.Tie as tie
 
 mul-at : tie.Need-mul-at
 mul-at c = search (shown-laws, needs)

@@ -1,10 +1,10 @@
 -- `rows_width` meets its contract: each need by the laws of this crate.
-use Rattle.list.proofs.Printing.{Widths, width-laws}
+use Rattle.printed.proofs.Printing.{Widths, width-laws}
 use Prim.Native.Nat.{_-_}
-use Rattle.list.specs.Listing.{sheetFrom}
+use Rattle.printed.specs.Printing.{sheetFrom}
 use borrow.Author.Needs.{needs}
-use Rattle.list.proofs.rows_width.Statement.{statement}
-use Rattle.list.proofs.rows_width.Tie as tie
+use Rattle.printed.proofs.rows_width.Statement.{statement}
+use Rattle.printed.proofs.rows_width.Tie as tie
 
 abbrev Inv-loop : tie.InvT-loop
 Inv-loop list n cl fills lines width₀ i₀ width i = Widths (sheetFrom cl fills lines) list n i width

@@ -20,9 +20,10 @@ use Rattle.text.specs.declared.Written.the-variants.{To, Refused}
 use Rattle.text.proofs.Lent.{wrote-length, wrote-none, wrote-then, writes-short, writes-all}
 use Rattle.claims.specs.Lines.{lineAt, linesFrom}
 use Rattle.claims.specs.Books.{Books, OwnFilled}
-use Rattle.list.specs.Listing.{mostRows, mostText, letterAt, wordAt, orderLetter, rowText, textFrom, Listing, tableLine, sheetFrom, shownText, OrderShown, RowShown, Prints}
-use Rattle.list.specs.declared.Shown.{Shown}
+use Rattle.list.specs.Listing.{mostRows, mostText, letterAt, wordAt, orderLetter, rowText, textFrom, Listing}
 use Rattle.list.proofs.Rows.{text-none, text-more, text-longer}
+use Rattle.printed.specs.Printing.{tableLine, sheetFrom, shownText, OrderShown, RowShown, Prints}
+use Rattle.printed.specs.declared.Shown.{Shown}
 
 -- ---- a row as it is printed
 

@@ -1,8 +1,8 @@
 -- `order_shown` meets its contract: each need by the laws of this crate.
-use Rattle.list.proofs.Printing.{shown-laws}
+use Rattle.printed.proofs.Printing.{shown-laws}
 use borrow.Author.Needs.{needs}
-use Rattle.list.proofs.order_shown.Statement.{statement}
-use Rattle.list.proofs.order_shown.Tie as tie
+use Rattle.printed.proofs.order_shown.Statement.{statement}
+use Rattle.printed.proofs.order_shown.Tie as tie
 
 returns : tie.Need-returns
 returns c = search (shown-laws, needs)

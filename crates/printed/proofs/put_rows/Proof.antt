@@ -1,10 +1,10 @@
 -- `put_rows` meets its contract: each need by the laws of this crate.
-use Rattle.list.proofs.Printing.{RowsWritten, rows-laws}
+use Rattle.printed.proofs.Printing.{RowsWritten, rows-laws}
 use Prim.Native.Nat.{_-_}
-use Rattle.list.specs.Listing.{sheetFrom}
+use Rattle.printed.specs.Printing.{sheetFrom}
 use borrow.Author.Needs.{needs}
-use Rattle.list.proofs.put_rows.Statement.{statement}
-use Rattle.list.proofs.put_rows.Tie as tie
+use Rattle.printed.proofs.put_rows.Statement.{statement}
+use Rattle.printed.proofs.put_rows.Tie as tie
 
 abbrev Inv-loop : tie.InvT-loop
 Inv-loop list n cl fills lines out₀ at next₀ i₀ out next i = RowsWritten (sheetFrom cl fills lines) list n out₀ at i out next

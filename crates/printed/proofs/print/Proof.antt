@@ -1,8 +1,8 @@
 -- `print` meets its contract: each need by the laws of this crate.
-use Rattle.list.proofs.Printing.{print-laws}
+use Rattle.printed.proofs.Printing.{print-laws}
 use borrow.Author.Needs.{needs}
-use Rattle.list.proofs.print.Statement.{statement}
-use Rattle.list.proofs.print.Tie as tie
+use Rattle.printed.proofs.print.Statement.{statement}
+use Rattle.printed.proofs.print.Tie as tie
 
 first-line-width-requires : tie.Need-first-line-width-requires
 first-line-width-requires c κs = search (print-laws, needs)
