@@ -1,12 +1,12 @@
 // What the programs share: lent buffers filled from standard input or a named file, answers sent, refusals said. An answer goes to standard output, whatever is no answer to standard error.
 ghost use Prim.Native.Nat.{_<_};
-use journal::Journal;
 use libc::STDIN_FILENO;
 use libc::STDOUT_FILENO;
 use number::Number;
 use numbered::SatisfactionOrder;
 use rows::Code;
 use text::Written;
+use walk::Journal;
 
 // How much of the buffer was filled, by all of the input or by as much as there is room for; or a read failed.
 pub enum Input {

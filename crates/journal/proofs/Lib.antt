@@ -1,7 +1,2 @@
-pub mod Inside
-pub mod Reaching
-pub mod Walking
-pub mod Looping
-pub mod Beginning
 pub mod Entries
 pub mod Settled
