@@ -1,5 +1,4 @@
-pub mod Table
-pub mod Judge
+pub mod Facts
 pub mod Lines
 pub mod Due
 pub mod TradeLines

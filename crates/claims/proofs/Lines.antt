@@ -21,10 +21,11 @@ use Rattle.rows.specs.Rows.{Reads, word, Put, RecOk}
 use Rattle.rows.specs.declared.Rec.{Rec}
 use Rattle.orders.specs.Orders.{Headed, Heads}
 use Rattle.trades.specs.Trades.{Traded}
-use Rattle.claims.specs.declared.Facts.{Facts}
-use Rattle.claims.specs.Reasons.{reasonOf, claimOf, factsOf}
+use Rattle.reasons.specs.declared.Facts.{Facts}
+use Rattle.reasons.specs.Reasons.{reasonOf, claimOf}
+use Rattle.claims.specs.Facts.{factsOf}
 use Rattle.claims.specs.Lines.{lineAt, linesFrom, numberAt, manyOf, sumOf, tradeLines, Lined, Filing, Fileable, Filed, Placed, ClaimsStep}
-use Rattle.claims.proofs.Judge.{reason-is, customers-are, claim-is}
+use Rattle.claims.proofs.Facts.{reason-is, customers-are, claim-is}
 
 -- ---- one line more at the end
 

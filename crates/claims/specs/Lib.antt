@@ -1,3 +1,3 @@
-pub mod Reasons
+pub mod Facts
 pub mod Lines
 pub mod Books

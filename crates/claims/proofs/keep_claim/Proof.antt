@@ -4,10 +4,10 @@ use Rattle.claims.proofs.keep_claim.Statement.{statement}
 use Rattle.claims.proofs.keep_claim.Tie as tie
 use Rattle.claims.proofs.keep_claim.Reads as reads
 use Rattle.claims.proofs.keep_claim.Lts as lts
-use Rattle.claims.proofs.claim_of.Reads as claim-of-reads
+use Rattle.reasons.proofs.claim_of.Reads as claim-of-reads
 use Rattle.claims.proofs.facts_at.Reads as facts-at-reads
 use Rattle.claims.proofs.file_line.Reads as file-line-reads
-use Rattle.claims.proofs.reason_of.Reads as reason-of-reads
+use Rattle.reasons.proofs.reason_of.Reads as reason-of-reads
 use Rattle.rows.proofs.index.Reads as index-reads
 
 returns : tie.Need-returns

@@ -1,9 +1,9 @@
-use Rattle.claims.proofs.Table.{word-laws}
+use Rattle.reasons.proofs.Table.{word-laws}
 use borrow.Author.Needs.{needs}
-use Rattle.claims.proofs.later_than.Statement.{statement}
-use Rattle.claims.proofs.later_than.Tie as tie
-use Rattle.claims.proofs.later_than.Reads as reads
-use Rattle.claims.proofs.later_than.Lts as lts
+use Rattle.reasons.proofs.later_than.Statement.{statement}
+use Rattle.reasons.proofs.later_than.Tie as tie
+use Rattle.reasons.proofs.later_than.Reads as reads
+use Rattle.reasons.proofs.later_than.Lts as lts
 use Rattle.rows.proofs.wide.Reads as wide-reads
 
 wide-requires : tie.Need-wide-requires

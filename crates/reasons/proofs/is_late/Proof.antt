@@ -1,10 +1,10 @@
-use Rattle.claims.proofs.Table.{word-laws}
+use Rattle.reasons.proofs.Table.{word-laws}
 use borrow.Author.Needs.{needs}
-use Rattle.claims.proofs.is_late.Statement.{statement}
-use Rattle.claims.proofs.is_late.Tie as tie
-use Rattle.claims.proofs.is_late.Reads as reads
-use Rattle.claims.proofs.is_late.Lts as lts
-use Rattle.claims.proofs.later_than.Reads as later-than-reads
+use Rattle.reasons.proofs.is_late.Statement.{statement}
+use Rattle.reasons.proofs.is_late.Tie as tie
+use Rattle.reasons.proofs.is_late.Reads as reads
+use Rattle.reasons.proofs.is_late.Lts as lts
+use Rattle.reasons.proofs.later_than.Reads as later-than-reads
 use Rattle.rows.proofs.wide.Reads as wide-reads
 
 wide-requires : tie.Need-wide-requires

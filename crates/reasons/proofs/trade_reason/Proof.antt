@@ -1,10 +1,10 @@
-use Rattle.claims.proofs.Table.{reason-laws}
+use Rattle.reasons.proofs.Table.{reason-laws}
 use borrow.Author.Needs.{needs}
-use Rattle.claims.proofs.trade_reason.Statement.{statement}
-use Rattle.claims.proofs.trade_reason.Tie as tie
-use Rattle.claims.proofs.trade_reason.Reads as reads
-use Rattle.claims.proofs.trade_reason.Lts as lts
-use Rattle.claims.proofs.both.Reads as both-reads
+use Rattle.reasons.proofs.trade_reason.Statement.{statement}
+use Rattle.reasons.proofs.trade_reason.Tie as tie
+use Rattle.reasons.proofs.trade_reason.Reads as reads
+use Rattle.reasons.proofs.trade_reason.Lts as lts
+use Rattle.reasons.proofs.both.Reads as both-reads
 
 returns : tie.Need-returns
 returns c = search (reason-laws, needs)

@@ -9,8 +9,8 @@ use borrow.Author.Tests.{eq-eqb, ne-eqb, le-leb, lt-leb, not-true}
 use Rattle.rules.specs.Basics.{if_then_else_, _==_, Row, _when_, _¦_, firstOf, all}
 use Rattle.rules.specs.Reasons.{threeMinutes}
 use Rattle.rules.proofs.Tests.{byTest, and-left, and-right}
-use Rattle.claims.specs.declared.Facts.{Facts}
-use Rattle.claims.specs.Reasons.{laterThan, lateAt, requiredOf, tradeReason, lateReason, priceReason, reasonOf, claimOf}
+use Rattle.reasons.specs.declared.Facts.{Facts}
+use Rattle.reasons.specs.Reasons.{laterThan, lateAt, requiredOf, tradeReason, lateReason, priceReason, reasonOf, claimOf}
 
 pub later-by-words : (report allowed now a b : ℕ) → (a ≡ report) × (a < 4294967296) → (b ≡ now) × (b < 4294967296) → ltb (a + allowed) b ≡ laterThan report allowed now
 unfolding laterThan

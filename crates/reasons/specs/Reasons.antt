@@ -1,13 +1,12 @@
 -- "Reasons on a Satisfaction Order, first that holds", over the numbers that its trade kept.
 use mathlib.Core.Bool.{Bool, not, _&&_}
-use mathlib.Core.List.{List, []}
-use Prim.Native.Nat.{ℕ, _+_, _-_, _*_, min}
-use lib.ListN.{getD}
+use mathlib.Core.List.{[]}
+use Prim.Native.Nat.{ℕ, _+_, _-_, min}
 use Rattle.rules.specs.Basics.{if_then_else_, _==_, _atLeast_, _moreThan_, _when_, _¦_, firstOf}
 use Rattle.rules.specs.Limits.{closingMinutes}
 use Rattle.rules.specs.Verdicts.{neither}
-use Rattle.rules.specs.Reasons.{customers, reason, threeMinutes, oneMinute}
-use Rattle.claims.specs.declared.Facts.{Facts}
+use Rattle.rules.specs.Reasons.{threeMinutes, oneMinute}
+use Rattle.reasons.specs.declared.Facts.{Facts}
 
 -- "received later than the report plus" some time
 unfoldable pub laterThan : ℕ → ℕ → ℕ → Bool
@@ -73,23 +72,3 @@ reasonOf k =
 -- "0 for a reason other than 0; else the least of order size, customer contracts and trade size"
 unfoldable pub claimOf : ℕ → ℕ → ℕ → ℕ → ℕ
 claimOf why size contracts traded = if why == 0 then min size (min contracts traded) else 0
-
--- what trade m kept, of itself, of exchange y + 1 and of home, with the header's close and the order's own price and time
-unfoldable pub factsOf : List ℕ → List ℕ → ℕ → ℕ → ℕ → ℕ → ℕ → ℕ → Facts
-factsOf tr sn m y home close asked now =
-    record {
-      side = getD sn ((m * 8 + y) * 8 + 0) 0;
-      there = getD sn ((m * 8 + y) * 8 + 1) 0;
-      customers = getD sn ((m * 8 + y) * 8 + 2) 0;
-      status = getD sn ((m * 8 + y) * 8 + 3) 0;
-      excused = getD sn ((m * 8 + y) * 8 + 4) 0;
-      home = getD sn ((m * 8 + (home - 1)) * 8 + 3) 0;
-      price = getD tr (m * 8 + 0) 0;
-      block = getD tr (m * 8 + 2) 0;
-      complex = getD tr (m * 8 + 3) 0;
-      initiator = getD tr (m * 8 + 4) 0;
-      report = getD tr (m * 8 + 5) 0;
-      close = close;
-      asked = asked;
-      time = now;
-    }

@@ -1,9 +1,9 @@
-use Rattle.claims.proofs.Table.{word-laws}
+use Rattle.reasons.proofs.Table.{word-laws}
 use borrow.Author.Needs.{needs}
-use Rattle.claims.proofs.claim_of.Statement.{statement}
-use Rattle.claims.proofs.claim_of.Tie as tie
-use Rattle.claims.proofs.claim_of.Reads as reads
-use Rattle.claims.proofs.claim_of.Lts as lts
+use Rattle.reasons.proofs.claim_of.Statement.{statement}
+use Rattle.reasons.proofs.claim_of.Tie as tie
+use Rattle.reasons.proofs.claim_of.Reads as reads
+use Rattle.reasons.proofs.claim_of.Lts as lts
 use Rattle.trades.proofs.least.Reads as least-reads
 
 least-requires : tie.Need-least-requires

@@ -1,11 +1,11 @@
-use Rattle.claims.proofs.Table.{reason-laws}
+use Rattle.reasons.proofs.Table.{reason-laws}
 use borrow.Author.Needs.{needs}
-use Rattle.claims.proofs.price_reason.Statement.{statement}
-use Rattle.claims.proofs.price_reason.Tie as tie
-use Rattle.claims.proofs.price_reason.Reads as reads
-use Rattle.claims.proofs.price_reason.Lts as lts
-use Rattle.claims.proofs.both.Reads as both-reads
-use Rattle.claims.proofs.required.Reads as required-reads
+use Rattle.reasons.proofs.price_reason.Statement.{statement}
+use Rattle.reasons.proofs.price_reason.Tie as tie
+use Rattle.reasons.proofs.price_reason.Reads as reads
+use Rattle.reasons.proofs.price_reason.Lts as lts
+use Rattle.reasons.proofs.both.Reads as both-reads
+use Rattle.reasons.proofs.required.Reads as required-reads
 
 both-requires : tie.Need-both-requires
 both-requires c κs = search (reason-laws, needs)

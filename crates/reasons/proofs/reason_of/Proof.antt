@@ -1,12 +1,12 @@
-use Rattle.claims.proofs.Table.{whole-laws}
+use Rattle.reasons.proofs.Table.{whole-laws}
 use borrow.Author.Needs.{needs}
-use Rattle.claims.proofs.reason_of.Statement.{statement}
-use Rattle.claims.proofs.reason_of.Tie as tie
-use Rattle.claims.proofs.reason_of.Reads as reads
-use Rattle.claims.proofs.reason_of.Lts as lts
-use Rattle.claims.proofs.late_reason.Reads as late-reason-reads
-use Rattle.claims.proofs.price_reason.Reads as price-reason-reads
-use Rattle.claims.proofs.trade_reason.Reads as trade-reason-reads
+use Rattle.reasons.proofs.reason_of.Statement.{statement}
+use Rattle.reasons.proofs.reason_of.Tie as tie
+use Rattle.reasons.proofs.reason_of.Reads as reads
+use Rattle.reasons.proofs.reason_of.Lts as lts
+use Rattle.reasons.proofs.late_reason.Reads as late-reason-reads
+use Rattle.reasons.proofs.price_reason.Reads as price-reason-reads
+use Rattle.reasons.proofs.trade_reason.Reads as trade-reason-reads
 
 trade-reason-requires : tie.Need-trade-reason-requires
 trade-reason-requires c κs = search (whole-laws, needs)

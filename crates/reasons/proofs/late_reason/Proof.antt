@@ -1,12 +1,12 @@
-use Rattle.claims.proofs.Table.{reason-laws}
+use Rattle.reasons.proofs.Table.{reason-laws}
 use borrow.Author.Needs.{needs}
-use Rattle.claims.proofs.late_reason.Statement.{statement}
-use Rattle.claims.proofs.late_reason.Tie as tie
-use Rattle.claims.proofs.late_reason.Reads as reads
-use Rattle.claims.proofs.late_reason.Lts as lts
-use Rattle.claims.proofs.both.Reads as both-reads
-use Rattle.claims.proofs.is_late.Reads as is-late-reads
-use Rattle.claims.proofs.later_than.Reads as later-than-reads
+use Rattle.reasons.proofs.late_reason.Statement.{statement}
+use Rattle.reasons.proofs.late_reason.Tie as tie
+use Rattle.reasons.proofs.late_reason.Reads as reads
+use Rattle.reasons.proofs.late_reason.Lts as lts
+use Rattle.reasons.proofs.both.Reads as both-reads
+use Rattle.reasons.proofs.is_late.Reads as is-late-reads
+use Rattle.reasons.proofs.later_than.Reads as later-than-reads
 
 is-late-requires : tie.Need-is-late-requires
 is-late-requires c κs = search (reason-laws, needs)

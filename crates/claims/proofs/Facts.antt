@@ -1,0 +1,63 @@
+-- What the tables of trades kept says the reason on a Satisfaction Order, its customer contracts and its claim.
+use mathlib.Core.Path.{_≡_, refl, sym, ap, _∙_}
+use mathlib.Core.List.{List}
+use Prim.Native.Nat.{ℕ, _+_, _-_, _*_, _<_, _≤_}
+use native.Mathlib.Omega.{arith}
+use lib.ListN.{getD}
+use Rattle.rules.specs.Header.{Header}
+use Rattle.rules.specs.Record.{Event, satisfaction}
+use Rattle.rules.specs.Journal.{History, tradeAt, beforeTrade}
+use Rattle.rules.specs.Prices.{statusOf}
+use Rattle.rules.specs.Reasons.{caseOf, customers, reason}
+use Rattle.rules.specs.Due.{claim}
+use Rattle.trades.specs.Trades.{snap, snapAt, Traded}
+use Rattle.reasons.specs.Reasons.{reasonOf, claimOf}
+use Rattle.reasons.proofs.Judge.{factsIn, reason-words, customers-words, claim-words}
+use Rattle.claims.specs.Facts.{factsOf}
+
+status-word : (e : Event) (before : History) (y : ℕ) → getD (snapAt e before y) 3 0 ≡ statusOf (y + 1) before
+unfolding snap
+status-word e before y = refl
+
+module _ (h : Header) (past : History) (tr sn : List ℕ) (trades m y home : ℕ) (held : Traded h past tr sn trades) (hm : m < trades)
+    (hy : y < h .exchanges) (eh : h .home ≡ home) (low : 1 ≤ home) (high : home ≤ h .exchanges)
+    (e : Event) (et : (satisfaction e) .trade ≡ m) (es : (satisfaction e) .sender ≡ y + 1) where
+  pub case-is : caseOf past e ≡ record { claim = e; trade = tradeAt m past; before = beforeTrade m past }
+  unfolding caseOf
+  case-is = rw et
+
+  pub facts-are : (close asked now : ℕ) → h .close ≡ close → (satisfaction e) .price ≡ asked → e .time ≡ now
+      → factsOf tr sn m y home close asked now ≡ factsIn h (record { claim = e; trade = tradeAt m past; before = beforeTrade m past }) y
+  unfolding factsOf
+  facts-are close asked now ec ea en =
+      let home-status : getD sn ((m * 8 + (home - 1)) * 8 + 3) 0 ≡ statusOf (h .home) (beforeTrade m past) =
+      held .snaps m (home - 1) 3 hm (omega arith) (omega arith) ∙ status-word (tradeAt m past) (beforeTrade m past) (home - 1)
+      ∙ ap (λ (x : ℕ). statusOf x (beforeTrade m past)) (omega arith) in
+      rw (
+        held .snaps m y 0 hm hy (omega arith),
+        held .snaps m y 1 hm hy (omega arith),
+        held .snaps m y 2 hm hy (omega arith),
+        held .snaps m y 3 hm hy (omega arith),
+        held .snaps m y 4 hm hy (omega arith),
+        home-status,
+        held .rows m 0 hm (omega arith),
+        held .rows m 2 hm (omega arith),
+        held .rows m 3 hm (omega arith),
+        held .rows m 4 hm (omega arith),
+        held .rows m 5 hm (omega arith),
+        ← ec,
+        ← ea,
+        ← en,
+      )
+
+  pub reason-is : (close asked now : ℕ) → h .close ≡ close → (satisfaction e) .price ≡ asked → e .time ≡ now
+      → reasonOf (factsOf tr sn m y home close asked now) ≡ reason h (caseOf past e)
+  reason-is close asked now ec ea en = rw (facts-are close asked now ec ea en, case-is) (sym (reason-words h _ y es))
+
+  pub customers-are : getD sn ((m * 8 + y) * 8 + 2) 0 ≡ customers (caseOf past e)
+  customers-are = rw (held .snaps m y 2 hm hy (omega arith), case-is) (sym (customers-words h (record { claim = e; trade = tradeAt m past; before = beforeTrade m past }) y es))
+
+  pub claim-is : (why contracts size : ℕ) → why ≡ reason h (caseOf past e) → contracts ≡ customers (caseOf past e) → (satisfaction e) .size ≡ size
+      → claimOf why size contracts (getD tr (m * 8 + 1) 0) ≡ claim h (caseOf past e)
+  claim-is why contracts size ew eu ez =
+      rw (ew, eu, ← customers-are, held .snaps m y 2 hm hy (omega arith), held .rows m 1 hm (omega arith), case-is) (sym (claim-words h _ y es size ez))

@@ -1,0 +1,25 @@
+-- What a Satisfaction Order is judged by, out of the tables of trades.
+use mathlib.Core.List.{List}
+use Prim.Native.Nat.{ℕ, _+_, _-_, _*_}
+use lib.ListN.{getD}
+use Rattle.reasons.specs.declared.Facts.{Facts}
+
+-- what trade m kept, of itself, of exchange y + 1 and of home, with the header's close and the order's own price and time
+unfoldable pub factsOf : List ℕ → List ℕ → ℕ → ℕ → ℕ → ℕ → ℕ → ℕ → Facts
+factsOf tr sn m y home close asked now =
+    record {
+      side = getD sn ((m * 8 + y) * 8 + 0) 0;
+      there = getD sn ((m * 8 + y) * 8 + 1) 0;
+      customers = getD sn ((m * 8 + y) * 8 + 2) 0;
+      status = getD sn ((m * 8 + y) * 8 + 3) 0;
+      excused = getD sn ((m * 8 + y) * 8 + 4) 0;
+      home = getD sn ((m * 8 + (home - 1)) * 8 + 3) 0;
+      price = getD tr (m * 8 + 0) 0;
+      block = getD tr (m * 8 + 2) 0;
+      complex = getD tr (m * 8 + 3) 0;
+      initiator = getD tr (m * 8 + 4) 0;
+      report = getD tr (m * 8 + 5) 0;
+      close = close;
+      asked = asked;
+      time = now;
+    }
