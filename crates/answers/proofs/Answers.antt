@@ -25,9 +25,9 @@ use Rattle.survey.specs.declared.Surveyed.{Surveyed}
 use Rattle.survey.specs.declared.Surveyed.the-variants.{Whole, Stopped}
 use Rattle.sheet.specs.Tables.{OwnFills}
 use Rattle.sheet.specs.Written.{OwnWritten}
+use Rattle.said.specs.declared.Checked.{Checked}
+use Rattle.said.specs.declared.Checked.the-variants.{Refused as Unfit}
 use Rattle.checker.specs.Check.{checkedAs, CheckedAs}
-use Rattle.checker.specs.declared.Checked.{Checked}
-use Rattle.checker.specs.declared.Checked.the-variants.{Refused as Unfit}
 use Rattle.checker.proofs.Check.{journal-refused-first, whole-check}
 use Rattle.answers.specs.Answers.{answeredAs, DayPrinted}
 

@@ -17,9 +17,9 @@ use Rattle.journal.specs.Entries.{leftBy}
 use Rattle.journal.specs.declared.Rewritten.{Rewritten}
 use Rattle.journal.specs.declared.Rewritten.the-variants.{Written}
 use Rattle.journal.proofs.Settled.{left-settled}
+use Rattle.said.specs.declared.Checked.{Checked}
+use Rattle.said.specs.declared.Checked.the-variants.{Accepted, Refused}
 use Rattle.checker.specs.Check.{checkedAs}
-use Rattle.checker.specs.declared.Checked.{Checked}
-use Rattle.checker.specs.declared.Checked.the-variants.{Accepted, Refused}
 use Rattle.checker.proofs.Check.{checked-settled}
 
 pub day-settled : (s lent : List ℕ) (room : ℕ) (a b : Rewritten) (x y : List ℕ) → leftBy a x ≡ leaves (writeDay s room) lent

@@ -11,8 +11,8 @@ ghost use Rattle.claims.specs.Lines.{Filing};
 ghost use Rattle.list.specs.Listing.{mostRows, listWords};
 ghost use Rattle.checker.specs.Check.{checkedAs};
 ghost use Rattle.answers.specs.Answers.{answeredAs, DayPrinted};
-use checker::Checked;
 use journal::Rewritten;
+use said::Checked;
 use survey::Surveyed;
 use text::Written;
 

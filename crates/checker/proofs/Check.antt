@@ -9,9 +9,10 @@ use Rattle.rules.specs.SheetCheck.{beside, checkLines, checkTrades, checkSheet}
 use Rattle.rules.proofs.Answers.{refused-not-ok}
 use Rattle.claims.specs.Lines.{lineAt}
 use Rattle.claims.specs.Books.{Books}
-use Rattle.checker.specs.declared.Checked.{Checked}
-use Rattle.checker.specs.declared.Checked.the-variants.{Accepted, Refused}
-use Rattle.checker.specs.Said.{each, saidLine, besides, linesRead, SheetRead}
+use Rattle.said.specs.declared.Checked.{Checked}
+use Rattle.said.specs.declared.Checked.the-variants.{Accepted, Refused}
+use Rattle.said.specs.Said.{each, saidLine, linesRead, SheetRead}
+use Rattle.checker.specs.Beside.{besides}
 use Rattle.checker.specs.Check.{checkedAs, checkOf, TradesChecked, CheckedAs}
 use Rattle.checker.proofs.Trades.{lines-each, each-long, beside-each}
 

@@ -10,7 +10,7 @@ use Rattle.rules.specs.Basics.{below}
 use Rattle.claims.specs.Lines.{lineAt, numberAt, manyOf, tradeLines, ManyIs, NumberIs}
 use Rattle.claims.proofs.Lines.{trade-lines-more}
 use Rattle.claims.proofs.TradeLines.{trade-findable}
-use Rattle.checker.specs.Said.{fillOn, FillsGathered, FillsGathering}
+use Rattle.checker.specs.Beside.{fillOn, FillsGathered, FillsGathering}
 
 module _ (cl said : List ℕ) (m k : ℕ) (mk : ManyIs cl m k) (fill : List ℕ) where
   pub no-fill-gathered : length fill ≡ 8 → FillsGathering cl said m k 0 fill

@@ -11,9 +11,10 @@ use Rattle.rules.specs.Refusals.{doesNotAddUp, wrongReason, aboveClaim}
 use Rattle.rules.specs.SheetCheck.{Beside, checkLine, checkLines}
 use Rattle.rules.proofs.Answers.{went, met}
 use Rattle.rules.proofs.Tests.{on-cons}
-use Rattle.checker.specs.declared.Checked.{Checked}
-use Rattle.checker.specs.declared.Checked.the-variants.{Accepted, Refused}
-use Rattle.checker.specs.Said.{each, besideAt, besides, LinesChecking}
+use Rattle.said.specs.declared.Checked.{Checked}
+use Rattle.said.specs.declared.Checked.the-variants.{Accepted, Refused}
+use Rattle.said.specs.Said.{each}
+use Rattle.checker.specs.Beside.{besideAt, besides, LinesChecking}
 use Rattle.checker.specs.Check.{checkedAs, LineJudged}
 
 -- ---- one line

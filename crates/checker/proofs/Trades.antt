@@ -22,11 +22,12 @@ use Rattle.claims.specs.Books.{Books}
 use Rattle.claims.proofs.TradeLines.{trade-findable, gathered-lines}
 use Rattle.fairness.specs.Lines as fairness
 use Rattle.fairness.proofs.Lines.{known-line-sound}
-use Rattle.checker.specs.declared.Checked.{Checked}
-use Rattle.checker.specs.declared.Checked.the-variants.{Accepted, Refused}
-use Rattle.checker.specs.Said.{each, saidLine, besides, fillOn, FillsGathered}
+use Rattle.said.specs.declared.Checked.{Checked}
+use Rattle.said.specs.declared.Checked.the-variants.{Accepted, Refused}
+use Rattle.said.specs.Said.{each, saidLine}
+use Rattle.said.proofs.Reading.{each-more}
+use Rattle.checker.specs.Beside.{besides, fillOn, FillsGathered}
 use Rattle.checker.specs.Check.{checkedAs, TradeChecked, TradesChecked, TradesChecking}
-use Rattle.checker.proofs.Reading.{each-more}
 use Rattle.checker.proofs.Lines.{lines-within}
 
 -- ---- the journal's lines are the table's

@@ -10,9 +10,9 @@ use Rattle.rules.specs.Journal.{Journal, count}
 use Rattle.rules.specs.Due.{lines}
 use Rattle.rules.specs.SheetCheck.{sheetLines, Beside, beside, checkLine, checkLines, checkTrade, checkTrades}
 use Rattle.claims.specs.Books.{Books}
-use Rattle.checker.specs.Said.{besides}
-use Rattle.checker.specs.declared.Checked.{Checked}
-use Rattle.checker.specs.declared.Checked.the-variants.{Accepted, Refused}
+use Rattle.said.specs.declared.Checked.{Checked}
+use Rattle.said.specs.declared.Checked.the-variants.{Accepted, Refused}
+use Rattle.checker.specs.Beside.{besides}
 
 -- the paper's number and place for each answer
 abbrev pub checkedAs : Checked → Answer Passed

@@ -1,2 +1,2 @@
-pub mod Said
+pub mod Beside
 pub mod Check

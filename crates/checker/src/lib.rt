@@ -1,114 +1,17 @@
-// Any bytes offered as the sheet of a journal, checked against the journal's tables: "20; then line by line 21, 22, 24; then trade by
-// trade 25, 26". Reasons, claims and due totals come from the tables alone; the sheet is never asked what is due.
+// What a sheet says, checked against the tables of its journal: "20; then line by line 21, 22, 24; then trade by trade 25, 26".
+// Reasons, claims and due totals come from the tables alone; the sheet is never asked what is due.
 ghost use mathlib.Core.Path.{_≡_};
 ghost use Prim.Native.Nat.{_<_, _≤_};
 ghost use lib.ListN.{length};
 ghost use Rattle.rules.specs.Limits.{mostTrades, mostSatisfactionOrders};
 ghost use Rattle.rules.specs.SheetCheck.{checkLine, checkLines};
 ghost use Rattle.claims.specs.Lines.{Filing};
-ghost use Rattle.checker.specs.Said.{threeAt, besideAt, besides, SheetRead, FillsGathered};
+ghost use Rattle.checker.specs.Beside.{besideAt, besides, FillsGathered};
 ghost use Rattle.checker.specs.Check.{checkedAs, LineJudged, TradeChecked, TradesChecked, CheckedAs};
 use claims::Line;
-use number::Field;
 use rows::Refusal;
-
-// What the check answers: yes, or the first fault with its place.
-pub enum Checked {
-    Accepted,
-    Refused { no: u32, place: usize },
-}
-
-// "A sheet line: reason, filled, cancelled": three words for each line.
-struct Said;
-
-impl Said {
-    const REASON: usize = 0;
-
-    const FILLED: usize = 1;
-
-    const CANCELLED: usize = 2;
-}
-
-// One line of a sheet with the place after it, or the place of the number that can't be read.
-enum Three {
-    Read {
-        reason: u32,
-        filled: u32,
-        cancelled: u32,
-        next: usize,
-    },
-    Cut(usize),
-}
-
-fn read_line(sheet: &[u8], at: usize) -> Three
-    ensures { λ r. ⌜ r ≡ threeAt (now (sheet .entry)) at ⌝ }
-{
-    let Field::Read {
-        value: reason,
-        next: p,
-    } = number::read_at(sheet, at)
-    else {
-        return Three::Cut(at);
-    };
-    let Field::Read {
-        value: filled,
-        next: q,
-    } = number::read_at(sheet, p)
-    else {
-        return Three::Cut(p);
-    };
-    let Field::Read {
-        value: cancelled,
-        next,
-    } = number::read_at(sheet, q)
-    else {
-        return Three::Cut(q);
-    };
-    Three::Read {
-        reason,
-        filled,
-        cancelled,
-        next,
-    }
-}
-
-// 20: "exactly three readable numbers per Satisfaction Order". Where the sheet ends too early, no number can be read at its end.
-fn read_sheet(sheet: &[u8], n: usize, said: &mut [u32; 1536]) -> Checked
-    requires { ⌜ (n ≤ mostSatisfactionOrders) × (length (now said) ≡ 1536) ⌝ }
-    ensures { λ r. ⌜ SheetRead (now (sheet .entry)) n (now (said .exit)) r ⌝ }
-{
-    let mut at: usize = 0;
-    let mut i: usize = 0;
-    while i < n {
-        match read_line(sheet, at) {
-            Three::Cut(place) => {
-                return Checked::Refused {
-                    no: Refusal::NOT_THREE_EACH,
-                    place,
-                };
-            }
-            Three::Read {
-                reason,
-                filled,
-                cancelled,
-                next,
-            } => {
-                said[i * 3 + Said::REASON] = reason;
-                said[i * 3 + Said::FILLED] = filled;
-                said[i * 3 + Said::CANCELLED] = cancelled;
-                at = next;
-            }
-        }
-        i += 1;
-    }
-    if at < sheet.len() {
-        return Checked::Refused {
-            no: Refusal::NOT_THREE_EACH,
-            place: at,
-        };
-    }
-    Checked::Accepted
-}
+use said::Checked;
+use said::Said;
 
 // 21, 22, 24, of the numbers themselves. Any two words have room for their sum in 64 bits.
 fn judge_line(
@@ -255,7 +158,7 @@ pub fn check_sheet(
     ensures { λ r. ⌜ CheckedAs (now (cl .entry)) (now (tr .entry)) trades n (now (sheet .entry)) r ⌝ }
 {
     let mut said = [0u32; 1536];
-    if let Checked::Refused { no, place } = read_sheet(sheet, n, &mut said) {
+    if let Checked::Refused { no, place } = said::read_sheet(sheet, n, &mut said) {
         return Checked::Refused { no, place };
     }
     if let Checked::Refused { no, place } = check_lines(cl, &said, n) {

@@ -21,9 +21,9 @@ use Rattle.journal.specs.declared.DayTotals.{DayTotals}
 use Rattle.journal.specs.declared.DayTotals.the-variants.{Totals as TotalsOf, NoTotals}
 use Rattle.journal.specs.declared.Rewritten.{Rewritten}
 use Rattle.journal.specs.declared.Rewritten.the-variants.{Written, Unwritten}
+use Rattle.said.specs.declared.Checked.{Checked}
+use Rattle.said.specs.declared.Checked.the-variants.{Accepted as Passes, Refused as Unfit}
 use Rattle.checker.specs.Check.{checkedAs}
-use Rattle.checker.specs.declared.Checked.{Checked}
-use Rattle.checker.specs.declared.Checked.the-variants.{Accepted as Passes, Refused as Unfit}
 use Rattle.desk.specs.Exports.{refusalUnit, codeOf, unwritten, Gives, totalsWords, writeTotals, rewrittenAs}
 
 -- ---- the code of an answer

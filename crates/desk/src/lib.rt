@@ -12,13 +12,13 @@ ghost use Rattle.header.specs.Head.{firstWords};
 ghost use Rattle.journal.specs.Entries.{Copied};
 ghost use Rattle.desk.specs.Exports.{refusalUnit, codeOf, unwritten, Gives, writeTotals, rewrittenAs};
 ghost use Rattle.desk.specs.Records.{wordsAt, headFrom, writeHeaderFrom, writeRecordFrom, readRecordFrom};
-use checker::Checked;
 use header::Head;
 use journal::DayTotals;
 use journal::Rewritten;
 use journal::Verdict;
 use rows::Code;
 use rows::Refusal;
+use said::Checked;
 use text::Written;
 
 fn refusal(no: u32, place: usize) -> u64

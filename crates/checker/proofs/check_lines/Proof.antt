@@ -1,6 +1,6 @@
 -- `check_lines`: the lines below i have passed.
 use Prim.Native.Nat.{_-_}
-use Rattle.checker.specs.Said.{LinesChecking}
+use Rattle.checker.specs.Beside.{LinesChecking}
 use Rattle.checker.proofs.Lines.{lines-laws}
 use borrow.Author.Needs.{needs}
 use Rattle.checker.proofs.check_lines.Statement.{statement}

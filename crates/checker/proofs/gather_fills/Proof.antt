@@ -1,6 +1,6 @@
 -- `gather_fills`: the fills of the first i lines are gathered.
 use Prim.Native.Nat.{_-_}
-use Rattle.checker.specs.Said.{FillsGathering}
+use Rattle.checker.specs.Beside.{FillsGathering}
 use Rattle.checker.proofs.Fills.{fills-laws}
 use borrow.Author.Needs.{needs}
 use Rattle.checker.proofs.gather_fills.Statement.{statement}

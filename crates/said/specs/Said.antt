@@ -1,20 +1,18 @@
--- What a sheet says, in memory: three words for each line, beside the row of its Satisfaction Order.
+-- What a sheet says, in memory: three words for each line.
 use mathlib.Core.Path.{_≡_}
-use mathlib.Core.List.{List, [], _∷_, _++_, map}
+use mathlib.Core.List.{List, [], _∷_, _++_}
 use Prim.Native.Nat.{ℕ, zero, suc, _+_, _-_, _*_, _≤_}
-use lib.ListN.{getD, length, take}
+use lib.ListN.{getD, length}
 use Rattle.rules.specs.Basics.{Answer, refused, ok}
 use Rattle.rules.specs.Number.{startOf}
-use Rattle.rules.specs.Due.{Line}
 use Rattle.rules.specs.OwnSheet.{SheetLine}
-use Rattle.rules.specs.SheetCheck.{sheetLines, Beside, checkLines}
+use Rattle.rules.specs.SheetCheck.{sheetLines}
 use Rattle.number.specs.Reading.{spotAt}
 use Rattle.numbers.specs.Rows.{Many, all, cut, manyAt}
-use Rattle.claims.specs.Lines.{lineAt, manyOf, tradeLines}
-use Rattle.checker.specs.declared.Checked.{Checked}
-use Rattle.checker.specs.declared.Checked.the-variants.{Accepted, Refused}
-use Rattle.checker.specs.declared.Three.{Three}
-use Rattle.checker.specs.declared.Three.the-variants.{Read, Cut}
+use Rattle.said.specs.declared.Checked.{Checked}
+use Rattle.said.specs.declared.Checked.the-variants.{Accepted, Refused}
+use Rattle.said.specs.declared.Three.{Three}
+use Rattle.said.specs.declared.Three.the-variants.{Read, Cut}
 
 -- f of k numbers from i on
 unfoldable pub each : {A : Type 0} → (ℕ → A) → ℕ → ℕ → List A
@@ -40,13 +38,6 @@ saidLine said i =
       cancelled = getD said (i * 3 + 2) 0;
     }
 
-abbrev pub besideAt : List ℕ → List ℕ → ℕ → Beside
-besideAt cl said i = record { line = lineAt cl i; sheet = saidLine said i }
-
--- the lines of the tables beside those of the sheet
-unfoldable pub besides : List ℕ → List ℕ → ℕ → List Beside
-besides cl said n = each (besideAt cl said) 0 n
-
 -- the lines that a read sheet says, or its refusal
 abbrev pub linesRead : Checked → List ℕ → ℕ → Answer (List SheetLine)
 linesRead Accepted said n = ok (each (saidLine said) 0 n)
@@ -66,23 +57,3 @@ pub record SheetReading (sheet : List ℕ) (n : ℕ) (said : List ℕ) (at i : �
   pub rest : sheetLines n (startOf sheet) ≡ behind (each (saidLine said) 0 i) (sheetLines (n - i) (spotAt 0 sheet at))
   pub low : i ≤ n
   pub long : length said ≡ 1536
-
--- the first i lines have passed
-pub record LinesChecking (cl said : List ℕ) (n i : ℕ) : Type 0 where
-  pub rest : checkLines (besides cl said n) ≡ checkLines (each (besideAt cl said) i (n - i))
-  pub low : i ≤ n
-
--- ---- the fills of a trade
-
-abbrev pub fillOn : List ℕ → Line → ℕ
-fillOn said l = getD said (l .number * 3 + 1) 0
-
-pub record FillsGathered (cl said : List ℕ) (m : ℕ) (fill : List ℕ) : Type 0 where
-  pub fills : take (manyOf cl m) fill ≡ map (fillOn said) (tradeLines cl m (manyOf cl m))
-  pub long : length fill ≡ 8
-
--- the first i of them
-pub record FillsGathering (cl said : List ℕ) (m k i : ℕ) (fill : List ℕ) : Type 0 where
-  pub fills : take i fill ≡ map (fillOn said) (tradeLines cl m i)
-  pub low : i ≤ k
-  pub long : length fill ≡ 8

@@ -1,8 +1,8 @@
 -- `read_line`: three numbers one after another, up to the first that can't be read.
-use Rattle.checker.proofs.Reading.{line-read-laws}
+use Rattle.said.proofs.Reading.{line-read-laws}
 use borrow.Author.Needs.{needs}
-use Rattle.checker.proofs.read_line.Statement.{statement}
-use Rattle.checker.proofs.read_line.Tie as tie
+use Rattle.said.proofs.read_line.Statement.{statement}
+use Rattle.said.proofs.read_line.Tie as tie
 
 read-at-requires : tie.Need-read-at-requires
 read-at-requires c κs = search (line-read-laws, needs)

@@ -18,10 +18,10 @@ use Rattle.number.specs.declared.Field.{Field}
 use Rattle.number.specs.declared.Field.the-variants.{Read as ReadTo, Cut as NoField}
 use Rattle.numbers.specs.Rows.{Many, all, cut, after, manyAt}
 use Rattle.numbers.proofs.Reading.{numbers-at}
-use Rattle.checker.specs.declared.Checked.the-variants.{Accepted, Refused}
-use Rattle.checker.specs.declared.Three.{Three}
-use Rattle.checker.specs.declared.Three.the-variants.{Read, Cut}
-use Rattle.checker.specs.Said.{each, asThree, threeAt, saidLine, SheetRead, behind, SheetReading}
+use Rattle.said.specs.declared.Checked.the-variants.{Accepted, Refused}
+use Rattle.said.specs.declared.Three.{Three}
+use Rattle.said.specs.declared.Three.the-variants.{Read, Cut}
+use Rattle.said.specs.Said.{each, asThree, threeAt, saidLine, SheetRead, behind, SheetReading}
 
 -- ---- one line
 

@@ -1,10 +1,10 @@
 -- `read_sheet`: the lines below i are in memory, and the rest is read from `at` on.
 use Prim.Native.Nat.{_-_}
-use Rattle.checker.specs.Said.{SheetReading}
-use Rattle.checker.proofs.Reading.{sheet-read-laws}
+use Rattle.said.specs.Said.{SheetReading}
+use Rattle.said.proofs.Reading.{sheet-read-laws}
 use borrow.Author.Needs.{needs}
-use Rattle.checker.proofs.read_sheet.Statement.{statement}
-use Rattle.checker.proofs.read_sheet.Tie as tie
+use Rattle.said.proofs.read_sheet.Statement.{statement}
+use Rattle.said.proofs.read_sheet.Tie as tie
 
 abbrev Inv-loop : tie.InvT-loop
 Inv-loop sheet n said₀ at₀ i₀ said at i = SheetReading sheet n said at i
