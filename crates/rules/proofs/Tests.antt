@@ -74,9 +74,6 @@ leb-not a b = (λ e. leb-false a b (not-true _ e), λ h. ap not (lt-leb a b h))
 pub eqb-not : (a b : ℕ) → So (not (eqb a b)) ↔ (a ≡ b → ⊥)
 eqb-not a b = (λ e. eqb-false a b (not-true _ e), λ h. ap not (ne-eqb a b h))
 
-pub not-iff : (a : Bool) → So (not a) ↔ (a ≡ false)
-not-iff a = (not-true a, λ e. ap not e)
-
 pub ruleset facts = (and-eq-true-iff, ltb-iff, leb-iff, eqb-iff, ltb-not, leb-not, eqb-not)
 
 -- ---- or

@@ -46,10 +46,6 @@ wrote-length s at a d p w = rw (w .lent) (lent-with-length s at a (w .room))
 pub wrote-set-length : (s : List ℕ) (i b at : ℕ) (a d : List ℕ) (p : ℕ) → Wrote (set s i b) at a d p → length d ≡ length s
 wrote-set-length s i b at a d p w = wrote-length (set s i b) at a d p w ∙ length-set s i b
 
--- the place after what was written is within the lent memory
-pub wrote-within : (s : List ℕ) (at : ℕ) (a d : List ℕ) (p : ℕ) → Wrote s at a d p → p ≤ length d
-wrote-within s at a d p w = omega (arith, w .room, w .place, wrote-length s at a d p w)
-
 pub wrote-none : (s : List ℕ) (at : ℕ) → at ≤ length s → Wrote s at [] s at
 unfolding lentWith
 wrote-none s at h =

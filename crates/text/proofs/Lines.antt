@@ -1,7 +1,5 @@
 -- Laws of printed lines: each is its parts one after another, has room where its parts have, and is what the definitions print.
 use Prim.Native.Nat.{ℕ, _+_, _≤_, _<_}
-use Prim.Native.Char.{Char, code}
-use Prim.Native.String.{[] as []ₛ, _∷_ as _∷ₛ_}
 use native.Mathlib.Omega.{arith}
 use mathlib.Core.Path.{_≡_, refl, ap}
 use mathlib.Core.List.{List, [], _∷_, _++_, map, append-assoc}
@@ -13,18 +11,10 @@ use Rattle.text.proofs.Lent.{wrote-length, wrote-set-length, wrote-one,
 
 -- ---- the letter: a byte in code, a text in the definitions
 
-pub letter-byte : (c : Char) → ascii (c ∷ₛ []ₛ) ≡ code c ∷ []
-unfolding ascii
-letter-byte c = refl
-
 pub line-is-printed : (q : Printed) (what : ℕ) → ascii (q .what) ≡ what ∷ []
     → lineOf (q .event) what (q .says .a) (q .says .b) (q .says .c) ≡ printedLine q
 unfolding lineOf printedLine
 line-is-printed q what e = rw e
-
--- the bytes that `What` has in code
-letters-in-code : map code ("Q" ∷ "S" ∷ "R" ∷ "T" ∷ "F" ∷ []) ≡ 81 ∷ 83 ∷ 82 ∷ 84 ∷ 70 ∷ []
-letters-in-code = refl
 
 -- ---- a line and its parts
 

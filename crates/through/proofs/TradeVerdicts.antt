@@ -183,23 +183,6 @@ trade-is r e reads t is =
       form = sym (is .form ∙ reads .fields 3);
     }
 
-pub trade-placed : (n home : ℕ) (r : Rec) → RecOk n home r → n ≤ 8 → TradePlaced r
-trade-placed n home r ok few =
-    record {
-      trade = λ k. let g = ok .trade k in
-          record {
-            series = g .series;
-            price = g .price;
-            price-from-one = g .price-from-one;
-            size = g .size;
-            size-from-one = g .size-from-one;
-            form = g .form;
-            complex = g .complex;
-            initiator = omega (arith, g .initiator);
-            delay = g .delay;
-          };
-    }
-
 pub series-low : (m : ℕ) (r : Rec) (t : Trade) → TradeOk m r → TradeIs r t → t .series < 32
 series-low m r t ok is = omega (arith, ok .series, is .series)
 
