@@ -5,12 +5,11 @@ use Prim.Native.Nat.{ℕ, _≤_}
 use lib.ListN.{length, replicate, length-replicate}
 use Rattle.rules.specs.Basics.{Answer, refused, ok, _>>=_}
 use Rattle.rules.specs.Limits.{mostTrades, mostSatisfactionOrders}
-use Rattle.rules.specs.Journal.{Journal, journal}
 use Rattle.rules.specs.OwnSheet.{ownSheet}
 use Rattle.rules.specs.PrintedDay.{dayText}
 use Rattle.rules.specs.Writing.{into, lentAfter, writeDay, writeSheet}
 use Rattle.rules.specs.SheetCheck.{checkSheet}
-use Rattle.number.specs.Writing.{Left, leaves}
+use Rattle.number.specs.Writing.{leaves}
 use Rattle.text.specs.Lent.{asAnswer, counted}
 use Rattle.text.specs.declared.Written.{Written}
 use Rattle.text.specs.declared.Written.the-variants.{To, Refused}

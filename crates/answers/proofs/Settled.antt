@@ -1,16 +1,14 @@
 -- What is promised of an entry settles its answer, and the lent bytes: two answers that it allows are equal. And what our own
 -- writer writes for an accepted journal, the check accepts.
-use mathlib.Core.Path.{_≡_, refl, sym, ap, _∙_}
-use mathlib.Core.List.{List, _++_}
+use mathlib.Core.Path.{_≡_, sym, ap, _∙_}
+use mathlib.Core.List.{List}
 use Prim.Native.Nat.{ℕ}
 use lib.ListN.{length, take}
 use lib.Seq.{take-append-seam}
 use Rattle.rules.specs.Basics.{Answer, refused, ok, _>>=_}
-use Rattle.rules.specs.Journal.{Journal, journal}
-use Rattle.rules.specs.OwnSheet.{ownSheet}
 use Rattle.rules.specs.Writing.{into, lentAfter, writeDay, writeSheet}
 use Rattle.rules.specs.SheetCheck.{checkSheet}
-use Rattle.rules.proofs.Answers.{refused-not-ok, ok-is, went, met}
+use Rattle.rules.proofs.Answers.{refused-not-ok, ok-is, went}
 use Rattle.rules.proofs.OwnSheet.{own-sheet-accepted}
 use Rattle.number.specs.Writing.{Left, leaves}
 use Rattle.journal.specs.Entries.{leftBy}
@@ -18,7 +16,7 @@ use Rattle.journal.specs.declared.Rewritten.{Rewritten}
 use Rattle.journal.specs.declared.Rewritten.the-variants.{Written}
 use Rattle.journal.proofs.Settled.{left-settled}
 use Rattle.said.specs.declared.Checked.{Checked}
-use Rattle.said.specs.declared.Checked.the-variants.{Accepted, Refused}
+use Rattle.said.specs.declared.Checked.the-variants.{Accepted}
 use Rattle.checker.specs.Check.{checkedAs}
 use Rattle.checker.proofs.Check.{checked-settled}
 

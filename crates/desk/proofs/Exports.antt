@@ -1,17 +1,17 @@
 -- Laws of the exported functions: from an entry's answer to the one number, for those that write and those that do not.
 use mathlib.Core.Path.{_≡_, refl, sym, ap, _∙_}
 use mathlib.Core.List.{List, [], _∷_}
-use Prim.Native.Nat.{ℕ, suc, _+_, _*_, _%_, _<_, _≤_}
+use Prim.Native.Nat.{ℕ, _%_, _<_, _≤_}
 use native.Mathlib.Omega.{arith}
 use lib.ListN.{length, set, drop}
 use borrow.Author.Tests.{le-leb, lt-leb}
-use Rattle.rules.specs.Basics.{Answer, refused, ok, _>>=_, Passed}
+use Rattle.rules.specs.Basics.{Answer, refused, ok, _>>=_}
 use Rattle.rules.specs.Refusals.{outputTooShort}
 use Rattle.rules.specs.Journal.{Journal, journal}
-use Rattle.rules.specs.Totals.{Totals, dayTotals}
+use Rattle.rules.specs.Totals.{dayTotals}
 use Rattle.rules.specs.SheetCheck.{checkSheet}
 use Rattle.rules.specs.Writing.{noPlace, into, lentAfter}
-use Rattle.rules.proofs.Answers.{refused-not-ok, ok-is, went, demand-met, demand-missed}
+use Rattle.rules.proofs.Answers.{demand-met, demand-missed}
 use Rattle.number.specs.Writing.{Left, leaves}
 use Rattle.text.specs.Lent.{counted}
 use Rattle.journal.specs.Entries.{accepted, verdictAs, totalsAs, leftBy}
@@ -24,7 +24,7 @@ use Rattle.journal.specs.declared.Rewritten.the-variants.{Written, Unwritten}
 use Rattle.said.specs.declared.Checked.{Checked}
 use Rattle.said.specs.declared.Checked.the-variants.{Accepted as Passes, Refused as Unfit}
 use Rattle.checker.specs.Check.{checkedAs}
-use Rattle.desk.specs.Exports.{refusalUnit, codeOf, unwritten, Gives, totalsWords, writeTotals, rewrittenAs}
+use Rattle.desk.specs.Exports.{refusalUnit, codeOf, unwritten, Gives, writeTotals, rewrittenAs}
 
 -- ---- the code of an answer
 

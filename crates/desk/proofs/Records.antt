@@ -1,33 +1,30 @@
 -- Laws of the functions that are given numbers: words copied out of them, and what the entries answer as one number.
 use mathlib.Core.Path.{_≡_, refl, sym, ap, subst, _∙_}
-use mathlib.Core.Bool.{true, false}
 use mathlib.Core.List.{List, [], _∷_, _++_}
 use Prim.Native.Nat.{ℕ, zero, suc, _+_, _%_, _<_, _≤_}
 use native.Mathlib.Omega.{arith}
 use native.Mathlib.Nat.{zero-add}
-use lib.ListN.{length, getD, set, drop, replicate, length-set}
-use lib.Seq.{ext-getD}
-use lib.Dec.{eqb}
+use lib.ListN.{length, getD, set, replicate}
 use borrow.Author.Tests.{le-leb, lt-leb, eq-eqb, ne-eqb}
-use Rattle.rules.specs.Basics.{_==_, below, Answer, refused, ok, _>>=_, demand}
+use Rattle.rules.specs.Basics.{below, refused, ok, _>>=_}
 use Rattle.rules.specs.Refusals.{outputTooShort}
-use Rattle.rules.specs.Writing.{noPlace, into, lentAfter, writeHeader, writeRecord, readRecord}
+use Rattle.rules.specs.Writing.{noPlace, into, lentAfter, readRecord}
 use Rattle.rules.proofs.Answers.{demand-met, demand-missed}
 use Rattle.rules.proofs.Below.{one-more-below, as-many-below}
 use Rattle.numbers.specs.Rows.{pad}
 use Rattle.numbers.proofs.Reading.{pad-none, pad-more, pad-long}
-use Rattle.text.specs.Lent.{asAnswer, counted}
+use Rattle.text.specs.Lent.{asAnswer}
 use Rattle.text.specs.declared.Written.{Written}
 use Rattle.text.specs.declared.Written.the-variants.{To, Refused}
 use Rattle.header.specs.Head.{firstWords, asHeader, WritesHead}
 use Rattle.header.specs.declared.Head.{Head}
 use Rattle.header.proofs.Ranges.{first-words-are}
-use Rattle.record.specs.Taken.{recordedAs, settledAs, entryOf}
+use Rattle.record.specs.Taken.{recordedAs, entryOf}
 use Rattle.record.specs.declared.Taken.{Taken}
-use Rattle.alone.specs.Alone.{givenAs, ReadAlone, WritesRecord}
+use Rattle.alone.specs.Alone.{ReadAlone, WritesRecord}
 use Rattle.journal.specs.Entries.{Copied}
 use Rattle.desk.specs.Exports.{refusalUnit, codeOf, Gives}
-use Rattle.desk.specs.Records.{wrongCount, wordsAt, headFrom, writeHeaderFrom, writeRecordFrom, recordWords, readRecordFrom}
+use Rattle.desk.specs.Records.{wrongCount, wordsAt, headFrom, writeHeaderFrom, writeRecordFrom, readRecordFrom}
 use Rattle.desk.proofs.Exports.{gives-refusal}
 
 -- ---- words copied out of the numbers

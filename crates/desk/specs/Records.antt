@@ -1,8 +1,8 @@
 -- The functions that are given a header or a record as numbers: how many they take, and what each number is.
-use mathlib.Core.List.{List, [], _∷_, map}
+use mathlib.Core.List.{List, _∷_, map}
 use Prim.Native.Nat.{ℕ, _+_, _%_}
 use lib.ListN.{length, getD}
-use Rattle.rules.specs.Basics.{_==_, below, Answer, refused, ok, _>>=_, demand}
+use Rattle.rules.specs.Basics.{_==_, below, Answer, _>>=_, demand}
 use Rattle.rules.specs.Record.{Recorded}
 use Rattle.rules.specs.Writing.{noPlace, into, writeHeader, writeRecord, readRecord}
 use Rattle.numbers.specs.Rows.{pad}

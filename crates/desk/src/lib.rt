@@ -3,7 +3,7 @@ ghost use mathlib.Core.Path.{_≡_};
 ghost use mathlib.Core.List.{[], _∷_};
 ghost use Prim.Native.Nat.{_%_, _≤_};
 ghost use lib.ListN.{length};
-ghost use Rattle.rules.specs.Basics.{Answer, refused, ok};
+ghost use Rattle.rules.specs.Basics.{refused};
 ghost use Rattle.rules.specs.Journal.{journal};
 ghost use Rattle.rules.specs.SheetCheck.{checkSheet};
 ghost use Rattle.rules.specs.Writing.{into, rewriteJournal, writeSheet, writeDay};

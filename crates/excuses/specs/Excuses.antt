@@ -11,7 +11,7 @@ use Rattle.rules.specs.Record.{Event, field, order, isSent, sentKind, responseK
 use Rattle.rules.specs.Journal.{History, count, since, sentAt}
 use Rattle.rules.specs.Prices.{absent}
 use Rattle.rules.specs.Verdicts.{buy, worse}
-use Rattle.rules.specs.Reasons.{endsExcuse, excuseWait, excuses, hadSent}
+use Rattle.rules.specs.Reasons.{endsExcuse, excuseWait, hadSent}
 use Rattle.rows.specs.Rows.{Reads, word, QuoteOk, OrderOk}
 use Rattle.rows.specs.declared.Rec.{Rec}
 

@@ -1,5 +1,5 @@
 -- A record of any kind: its row, where it is judged or a Satisfaction Order, is its line of the printed day.
-use mathlib.Core.Path.{_≡_, refl, sym, ap, _∙_}
+use mathlib.Core.Path.{_≡_, refl, sym, _∙_}
 use mathlib.Core.Bool.{false}
 use mathlib.Core.List.{List, [], _∷_, _++_, flatMap, append-nil}
 use Prim.Native.Nat.{ℕ, _+_, _*_, _%_, _<_}

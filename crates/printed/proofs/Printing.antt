@@ -9,7 +9,7 @@ use lib.ListN.{getD, length, length-append}
 use borrow.Author.Tests.{eq-eqb, ne-eqb}
 use Rattle.rules.specs.Basics.{below}
 use Rattle.rules.specs.Journal.{Journal}
-use Rattle.rules.specs.Due.{Line, lines}
+use Rattle.rules.specs.Due.{lines}
 use Rattle.rules.specs.GoodSheet as sheet
 use Rattle.rules.specs.OwnSheet.{SheetLine, ownFill, ownLine, ownLines}
 use Rattle.rules.specs.PrintedDay.{printedLine, listed, firstLine, dayText}

@@ -1,22 +1,21 @@
 -- Lines sorted by trade: where a line of the journal stands among those of its trade, where a line of a trade stands in the
 -- journal, and what a sheet or our own giving fills it.
-use mathlib.Core.Path.{_≡_, refl, sym, ap, _∙_, subst}
-use mathlib.Core.Bool.{Bool, true, false}
-use mathlib.Core.List.{List, [], _∷_, map, List·Memᴰ, List·Memᴰ·head, List·Memᴰ·tail}
+use mathlib.Core.Path.{_≡_, refl, sym, ap, _∙_}
+use mathlib.Core.Bool.{true}
+use mathlib.Core.List.{List, [], _∷_, List·Memᴰ, List·Memᴰ·head, List·Memᴰ·tail}
 use Prim.Native.Nat.{ℕ, zero, suc, _+_, _-_, _≤_, _<_}
-use native.Mathlib.Nat.{add-zero}
 use native.Mathlib.Omega.{arith}
 use lib.ListN.{length, getD, length-map, List·getD-map}
 use borrow.Author.Tests.{eqb-true, eq-eqb}
-use Rattle.rules.specs.Basics.{if_then_else_, _==_, keep, Answer, ok}
-use Rattle.rules.specs.Journal.{Journal, journal}
-use Rattle.rules.specs.Due.{Line, linesOf, lines, ofTrade, due, Share}
+use Rattle.rules.specs.Basics.{_==_, keep}
+use Rattle.rules.specs.Journal.{Journal}
+use Rattle.rules.specs.Due.{Line, lines, ofTrade, Share}
 use Rattle.rules.specs.OwnSheet.{SheetLine, ownShares, filledAt, ownFill}
 use Rattle.rules.specs.SheetCheck.{fillsOf}
 use Rattle.rules.specs.GoodSheet.{lineAt, saidAt, fillsOfTrade}
 use Rattle.rules.proofs.Tests.{byTest}
-use Rattle.rules.proofs.Lines.{Apart, lines-numbered}
-use Rattle.rules.proofs.OwnSheet.{linesIn, own-lines, own-apart, filled-at}
+use Rattle.rules.proofs.Lines.{lines-numbered}
+use Rattle.rules.proofs.OwnSheet.{own-lines, own-apart, filled-at}
 
 -- ---- numbered by their places, from `base` on
 

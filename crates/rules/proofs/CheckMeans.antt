@@ -1,24 +1,24 @@
 -- The check means what it should: for every accepted journal and any bytes, it accepts exactly the good sheets.
 use mathlib.Core.Path.{_≡_, refl, sym, ap, _∙_, subst}
-use mathlib.Core.Bool.{Bool, true, false, not, _&&_, _||_}
-use mathlib.Core.List.{List, [], _∷_, _++_, map, flatMap, append-nil, List·Memᴰ, List·Memᴰ·head, List·Memᴰ·tail, List·Memᴰ·not-nil}
+use mathlib.Core.Bool.{Bool, true, false}
+use mathlib.Core.List.{List, [], _∷_, _++_, map, flatMap, List·Memᴰ, List·Memᴰ·head, List·Memᴰ·tail, List·Memᴰ·not-nil}
 use mathlib.Core.Logic.{_↔_}
-use Prim.Native.Nat.{ℕ, zero, suc, _+_, _-_, _*_, _≤_, _<_}
+use Prim.Native.Nat.{ℕ, zero, suc, _+_, _≤_, _<_}
 use native.Mathlib.Nat.{zero-mul}
 use native.Mathlib.Omega.{arith}
 use lib.ListN.{length, getD}
 use borrow.Author.Tests.{eqb-true, eqb-false, eq-eqb, leb-true, le-leb}
-use Rattle.rules.specs.Basics.{if_then_else_, _==_, all, sum, keep, Answer, ok, refused, _>>=_, Passed, demand}
-use Rattle.rules.specs.Number.{storable, Bytes, Spot, startOf, Reads, numbers, bytesOfAll}
+use Rattle.rules.specs.Basics.{_==_, all, sum, keep, Answer, ok, refused, _>>=_, Passed, demand}
+use Rattle.rules.specs.Number.{storable, Bytes, Spot, startOf, bytesOfAll}
 use Rattle.rules.specs.Record.{isTrade}
 use Rattle.rules.specs.Journal.{Journal, journal, count}
 use Rattle.rules.specs.Due.{Line, lines, due, Share, fair, shareRule}
 use Rattle.rules.specs.OwnSheet.{SheetLine, lineBytes, sheetBytes, ownLines, ownSheet}
 use Rattle.rules.specs.SheetCheck.{renumbered, sheetLines, Beside, beside, checkLine, checkLines, asShare, sharesOf, fillsOf, checkTrade, checkTrades, checkSheet}
-use Rattle.rules.specs.GoodSheet.{lineAt, saidAt, Storable, fillsOfTrade, GoodLines, GoodSheet}
+use Rattle.rules.specs.GoodSheet.{lineAt, saidAt, Storable, fillsOfTrade, GoodSheet}
 use Rattle.rules.proofs.Tests.{byTest, and-left, and-right, on-cons, all-at, all-make, keep-sub, keep-holds, by-place, by-member}
-use Rattle.rules.proofs.Answers.{went, met, ok-is, refused-not-ok, demand-met}
-use Rattle.rules.proofs.Numbers.{Passes, read-numbers-again, bytes-append, written-numbers-are-bytes}
+use Rattle.rules.proofs.Answers.{went, met, ok-is, refused-not-ok}
+use Rattle.rules.proofs.Numbers.{read-numbers-again, bytes-append, written-numbers-are-bytes}
 use Rattle.rules.proofs.Lines.{LineKnown, journal-lines-known}
 use Rattle.rules.proofs.Giving.{Fair, fair-says, says-fair}
 use Rattle.rules.proofs.OwnSheet.{threeOf, Stores, written-sheet-reads-back, own-sheet-accepted}

@@ -1,16 +1,16 @@
 -- Giving one contract at a time: each round gives one contract while a claim is open, and keeps every two lines fair.
-use mathlib.Core.Path.{_≡_, refl, sym, ap, _∙_}
-use mathlib.Core.Bool.{Bool, true, false, not, _&&_, _||_, false≢true, true≢false}
-use mathlib.Core.List.{List, [], _∷_, _++_, map, List·Memᴰ, List·Memᴰ·head, List·Memᴰ·tail, List·Memᴰ·not-nil, List·Memᴰ·cases-cons}
+use mathlib.Core.Path.{_≡_, refl, sym, _∙_}
+use mathlib.Core.Bool.{Bool, true, false, false≢true, true≢false}
+use mathlib.Core.List.{List, [], _∷_, map, List·Memᴰ, List·Memᴰ·head, List·Memᴰ·tail, List·Memᴰ·not-nil, List·Memᴰ·cases-cons}
 use mathlib.Core.Logic.{_⊎_, inl, inr}
-use Prim.Native.Nat.{ℕ, zero, suc, _+_, _*_, _≤_, _<_}
+use Prim.Native.Nat.{ℕ, _+_, _*_, _≤_, _<_}
 use native.Mathlib.Nat.{add-mul, le-of-mul-le-mul-right, mul-le-mul-right, mul-right-comm, le-of-lt}
 use native.Mathlib.Omega.{arith}
-use lib.Dec.{ltb, leb}
+use lib.Dec.{leb}
 use borrow.Author.Tests.{ltb-true, leb-true, le-leb, lt-ltb, ltb-false, leb-false}
-use Rattle.rules.specs.Basics.{if_then_else_, all, any, sum}
+use Rattle.rules.specs.Basics.{any, sum}
 use Rattle.rules.specs.Due.{Share, unfilled, fair}
-use Rattle.rules.specs.OwnSheet.{noLater, isNext, oneMore, atFirst, giveOne, give}
+use Rattle.rules.specs.OwnSheet.{noLater, isNext, oneMore, atFirst, giveOne}
 use Rattle.rules.proofs.Tests.{byTest, and-left, and-right, and-make, when-true, when-make, all-at, all-make, on-cons, any-none, any-make}
 
 -- ---- a round keeps every two lines fair

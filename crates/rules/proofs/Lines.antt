@@ -1,21 +1,20 @@
 -- The lines of a journal: their numbers, their trades, their reasons and claims, and what these are at most.
 use mathlib.Core.Path.{_≡_, refl, sym, ap, _∙_, subst}
-use mathlib.Core.Bool.{Bool, true, false, not, _&&_, _||_, false≢true}
-use mathlib.Core.List.{List, [], _∷_, _++_, map, append-nil, List·Memᴰ, List·Memᴰ·head, List·Memᴰ·tail, List·Memᴰ·not-nil}
-use Prim.Native.Nat.{ℕ, zero, suc, _+_, _≤_, _<_, min}
+use mathlib.Core.Bool.{Bool, true, false, _||_, false≢true}
+use mathlib.Core.List.{List, [], _∷_, _++_, append-nil, List·Memᴰ, List·Memᴰ·head, List·Memᴰ·tail, List·Memᴰ·not-nil}
+use Prim.Native.Nat.{ℕ, zero, suc, _≤_, _<_}
 use native.Mathlib.Omega.{arith}
 use lib.ListN.{length, getD, length-append, List·getD-append}
 use lib.Seq.{getD-at}
 use borrow.Author.Tests.{leb-true, ltb-true, ltb-false, eqb-true, ne-eqb}
-use Rattle.rules.specs.Basics.{if_then_else_, _==_, _atMost_, _lessThan_, within, all, keep, sum, any, Row, firstOf, Answer, ok}
+use Rattle.rules.specs.Basics.{if_then_else_, _==_, _atMost_, _lessThan_, within, all, keep, sum, Row, firstOf, ok}
 use Rattle.rules.specs.Limits.{mostContracts}
-use Rattle.rules.specs.Number.{largest}
 use Rattle.rules.specs.Header.{Header}
-use Rattle.rules.specs.Record.{Event, Field, contracts, fits, fitAll, Kind, kinds, fieldsAmong, fieldsOf, field, trade, satisfaction, isTrade, isResponse, isSatisfaction, satisfactionKind}
+use Rattle.rules.specs.Record.{Event, Field, contracts, fits, fitAll, fieldsAmong, fieldsOf, field, trade, satisfaction, isTrade, isResponse, isSatisfaction, satisfactionKind}
 use Rattle.rules.specs.Journal.{History, count, satisfactionBelongs, belongs, Journal, journal}
 use Rattle.rules.specs.Reasons.{Case, caseOf, customers, reason}
 use Rattle.rules.specs.Due.{claim, Line, lineOf, linesOf, lines, ofTrade, claimsOf, dueOf, due}
-use Rattle.rules.proofs.Tests.{byTest, and-left, and-right, on-cons, at-end, keep-sub, facts}
+use Rattle.rules.proofs.Tests.{byTest, and-left, and-right, at-end, keep-sub, facts}
 use Rattle.rules.proofs.Histories.{count-cons, count-skip, count-grows}
 use Rattle.rules.proofs.Records.{InRange}
 use Rattle.rules.proofs.Journals.{Arrived, none, more, journal-arrived}

@@ -1,25 +1,25 @@
 -- "only": what the test `onlyFills` says of every sheet that the check accepts, and so examples 4, 5 and 6.
-use mathlib.Core.Path.{_≡_, refl, sym, ap, _∙_}
-use mathlib.Core.Bool.{Bool, true, false, not, _&&_, _||_}
-use mathlib.Core.List.{List, [], _∷_, map, List·Memᴰ, List·Memᴰ·head, List·Memᴰ·tail, List·Memᴰ·not-nil}
-use Prim.Native.Nat.{ℕ, zero, suc, _+_, _-_, _≤_, _<_, min}
+use mathlib.Core.Path.{_≡_, refl}
+use mathlib.Core.Bool.{Bool, true}
+use mathlib.Core.List.{List, [], _∷_, List·Memᴰ, List·Memᴰ·not-nil}
+use Prim.Native.Nat.{ℕ, zero, suc, _-_, _≤_, _<_, min}
 use native.Mathlib.Omega.{arith}
 use lib.Dec.{eqb, lit<}
 use lib.ListN.{length}
 use borrow.Author.Tests.{eqb-true, eqb-false}
-use Rattle.rules.specs.Basics.{if_then_else_, _==_, any, sum, keep, Answer, refused, ok}
+use Rattle.rules.specs.Basics.{_==_, any, sum, keep, Answer, refused, ok}
 use Rattle.rules.specs.Number.{Bytes}
 use Rattle.rules.specs.Record.{isTrade}
 use Rattle.rules.specs.Journal.{Journal, journal, count}
-use Rattle.rules.specs.Due.{Line, lines, ofTrade, claimsOf, due, Share, shareRule}
+use Rattle.rules.specs.Due.{Line, lines, ofTrade, claimsOf, due, shareRule}
 use Rattle.rules.specs.OwnSheet.{SheetLine}
-use Rattle.rules.specs.SheetCheck.{Beside, beside, asShare, sharesOf, fillsOf, checkSheet}
-use Rattle.rules.specs.GoodSheet.{lineAt, saidAt, fillsOfTrade, GoodLines, GoodSheet}
+use Rattle.rules.specs.SheetCheck.{beside, sharesOf, checkSheet}
+use Rattle.rules.specs.GoodSheet.{lineAt, saidAt, fillsOfTrade, GoodSheet}
 use Rattle.rules.specs.Only.{everyTo, everyFilling, same, filledSo, onlyFills}
 use Rattle.rules.specs.Examples.{written, fourth, fourthFills, fifth, fifthFills, sixth, sixthFills}
 use Rattle.rules.specs.Open.{everything}
 use Rattle.rules.proofs.Tests.{byTest, and-left, and-right, when-true, on-cons}
-use Rattle.rules.proofs.CheckMeans.{shares-fill, rule-passes, accepted-sheet-is-good}
+use Rattle.rules.proofs.CheckMeans.{rule-passes, accepted-sheet-is-good}
 
 -- ---- the test, of fills
 

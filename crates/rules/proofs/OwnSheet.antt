@@ -1,23 +1,23 @@
 -- Our own sheet of every accepted journal is accepted, line by line and trade by trade.
 use mathlib.Core.Path.{_≡_, refl, sym, ap, _∙_, subst}
-use mathlib.Core.Bool.{Bool, true, false, not, _&&_, _||_}
-use mathlib.Core.List.{List, [], _∷_, _++_, map, flatMap, List·Memᴰ, List·Memᴰ·head, List·Memᴰ·tail, List·Memᴰ·not-nil, Memᴰ·map, map-map, map-id}
-use Prim.Native.Nat.{ℕ, zero, suc, _+_, _-_, _*_, _≤_, _<_}
+use mathlib.Core.Bool.{Bool, true, false}
+use mathlib.Core.List.{List, [], _∷_, map, flatMap, List·Memᴰ, List·Memᴰ·head, List·Memᴰ·tail, List·Memᴰ·not-nil, Memᴰ·map, map-map, map-id}
+use Prim.Native.Nat.{ℕ, zero, suc, _+_, _-_, _≤_}
 use native.Mathlib.Nat.{zero-mul}
 use native.Mathlib.Omega.{arith}
 use lib.ListN.{length, length-map}
 use borrow.Author.Tests.{eqb-true, eq-eqb, ne-eqb, le-leb}
-use Rattle.rules.specs.Basics.{if_then_else_, _==_, all, sum, keep, Answer, ok, _>>=_, demand}
-use Rattle.rules.specs.Number.{largest, storable, startOf, numbers, bytesOfAll}
-use Rattle.rules.specs.Record.{isTrade, isSatisfaction}
+use Rattle.rules.specs.Basics.{_==_, all, sum, keep, ok, _>>=_, demand}
+use Rattle.rules.specs.Number.{largest, storable, startOf, bytesOfAll}
+use Rattle.rules.specs.Record.{isTrade}
 use Rattle.rules.specs.Journal.{Journal, journal, count}
-use Rattle.rules.specs.Due.{Line, linesOf, lines, ofTrade, claimsOf, due, Share, fair, shareRule}
-use Rattle.rules.specs.OwnSheet.{SheetLine, lineBytes, sheetBytes, isNext, oneMore, atFirst, giveOne, give, empty, ownShares, filledAt, ownFill, ownLine, ownLines, ownSheet}
-use Rattle.rules.specs.SheetCheck.{renumbered, sheetLines, Beside, beside, checkLine, checkLines, asShare, sharesOf, fillsOf, checkTrade, checkTrades, checkSheet}
-use Rattle.rules.proofs.Tests.{byTest, and-make, on-cons, all-make, keep-sub, keep-holds, keep-map, map-same, map-all}
+use Rattle.rules.specs.Due.{Line, lines, ofTrade, claimsOf, due, Share, shareRule}
+use Rattle.rules.specs.OwnSheet.{SheetLine, lineBytes, sheetBytes, atFirst, giveOne, give, empty, ownShares, filledAt, ownFill, ownLine, ownLines, ownSheet}
+use Rattle.rules.specs.SheetCheck.{sheetLines, beside, checkLine, checkLines, asShare, sharesOf, checkTrade, checkTrades, checkSheet}
+use Rattle.rules.proofs.Tests.{byTest, on-cons, all-make, keep-sub, keep-holds, keep-map, map-same, map-all}
 use Rattle.rules.proofs.Numbers.{written-numbers-read-back}
-use Rattle.rules.proofs.Lines.{LineKnown, journal-lines-known, Apart, alone, further, apart-keep, lines-apart, due-at-most-claims}
-use Rattle.rules.proofs.Giving.{Fair, fair-says, says-fair, After, kept, given, after, next-open, FairAll, round-keeps-fair, total, claims, Within, Served, round-gives-one}
+use Rattle.rules.proofs.Lines.{LineKnown, journal-lines-known, Apart, further, apart-keep, lines-apart, due-at-most-claims}
+use Rattle.rules.proofs.Giving.{says-fair, After, kept, given, after, next-open, FairAll, round-keeps-fair, total, claims, round-gives-one}
 
 -- ---- what is given comes from the lines, and stays within the claims
 

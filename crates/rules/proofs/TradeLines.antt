@@ -1,15 +1,14 @@
 -- The lines of one trade: one for each exchange that sent a Satisfaction Order for it, so at most as many as there are exchanges.
-use mathlib.Core.Path.{_≡_, refl, sym, ap, _∙_, subst}
-use mathlib.Core.Bool.{Bool, true, false, not, _&&_, _||_, and-false}
+use mathlib.Core.Path.{_≡_, refl, sym, _∙_, subst}
+use mathlib.Core.Bool.{Bool, true, false, _&&_, and-false}
 use mathlib.Core.List.{List, [], _∷_, _++_, append-nil}
 use Prim.Native.Nat.{ℕ, zero, suc, _+_, _≤_, _<_}
 use native.Mathlib.Omega.{arith}
 use lib.ListN.{length, length-append}
 use borrow.Author.Tests.{leb-true, eqb-true, eqb-false, eq-eqb, ne-eqb, not-true}
-use Rattle.rules.specs.Basics.{if_then_else_, _==_, _atMost_, within, any, keep, sum, below, Answer, ok}
-use Rattle.rules.specs.Limits.{mostExchanges}
+use Rattle.rules.specs.Basics.{if_then_else_, _==_, _atMost_, within, any, keep}
 use Rattle.rules.specs.Header.{Header}
-use Rattle.rules.specs.Record.{Event, fits, fitAll, fieldsAmong, fieldsOf, field, satisfaction, isResponse, isSatisfaction, satisfactionKind}
+use Rattle.rules.specs.Record.{Event, fitAll, fieldsAmong, fieldsOf, field, satisfaction, isResponse, isSatisfaction, satisfactionKind}
 use Rattle.rules.specs.Journal.{History, count, repeats, satisfactionBelongs, belongs}
 use Rattle.rules.specs.Due.{Line, lineOf, linesOf, ofTrade}
 use Rattle.rules.proofs.Tests.{byTest, and-left, and-right, or-left, or-right, keep-append, facts}

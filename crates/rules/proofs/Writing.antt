@@ -1,17 +1,14 @@
 -- Lent memory: a refusal keeps every byte, what is written fills a prefix and reads back from there, and nothing else changes.
-use mathlib.Core.Path.{_≡_, refl, sym, ap, _∙_}
-use mathlib.Core.List.{List, _++_}
-use Prim.Native.Nat.{ℕ, _+_, _-_, _≤_}
-use native.Mathlib.Omega.{arith}
-use lib.ListN.{length, drop, length-append, length-drop}
+use mathlib.Core.Path.{_≡_, refl, sym, _∙_}
+use mathlib.Core.List.{List}
+use Prim.Native.Nat.{ℕ, _≤_}
+use lib.ListN.{length, drop}
 use lib.Seq.{drop-at}
 use borrow.Author.Tests.{leb-true}
-use Rattle.rules.specs.Basics.{Answer, ok, refused, _>>=_, demand}
+use Rattle.rules.specs.Basics.{ok, refused, _>>=_}
 use Rattle.rules.specs.Number.{Bytes, startOf}
-use Rattle.rules.specs.Header.{Header, Headed, headerAt}
-use Rattle.rules.specs.Record.{Entry, Recorded}
-use Rattle.rules.specs.Journal.{Journal, journal, journalBytes}
-use Rattle.rules.specs.OwnSheet.{ownSheet}
+use Rattle.rules.specs.Header.{Header, headerAt}
+use Rattle.rules.specs.Record.{Entry}
 use Rattle.rules.specs.SheetCheck.{checkSheet}
 use Rattle.rules.specs.Writing.{into, lentAfter, writeHeader, trimmed, writeRecord, readRecord, rewriteJournal, writeSheet}
 use Rattle.rules.proofs.Answers.{went, met, ok-is}

@@ -1,6 +1,6 @@
 -- "What is due": claims, due totals, the share rule. All of it comes from the journal; no sheet is an argument of anything here.
-use Prim.Native.Nat.{ℕ, zero, suc, _+_, _*_, min}
-use mathlib.Core.Bool.{Bool, true, false, not, _&&_, _||_}
+use Prim.Native.Nat.{ℕ, _+_, _*_, min}
+use mathlib.Core.Bool.{Bool, not, _||_}
 use mathlib.Core.List.{List, [], _∷_, _++_, map}
 use Rattle.rules.specs.Basics.{if_then_else_, _==_, _atLeast_, _lessThan_, _moreThan_, any, all, keep, sum}
 use Rattle.rules.specs.Header.{Header, automatic}

@@ -2,7 +2,7 @@
 -- proofs/ThirteenExamples.antt shows that each row's two sides are the same.
 use Prim.Native.Nat.{ℕ, _+_, _-_}
 use Prim.Native.String.{String}
-use mathlib.Core.Bool.{Bool, _&&_}
+use mathlib.Core.Bool.{_&&_}
 use mathlib.Core.List.{List, [], _∷_, _++_, flatMap}
 use Rattle.rules.specs.Basics.{Answer, refused, ok, all, sum, _==_}
 use Rattle.rules.specs.Number.{Read, number, bytesOf, bytesOfAll, startOf}

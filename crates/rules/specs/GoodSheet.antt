@@ -4,10 +4,10 @@
 -- customer contracts. Claims and totals come from the journal alone.
 use Prim.Native.Nat.{ℕ, _+_, _*_, _≤_, _<_}
 use mathlib.Core.Path.{_≡_}
-use mathlib.Core.Bool.{Bool, true}
+use mathlib.Core.Bool.{true}
 use mathlib.Core.List.{List, [], _∷_}
 use lib.ListN.{length, getD}
-use Rattle.rules.specs.Basics.{if_then_else_, _==_, sum, all}
+use Rattle.rules.specs.Basics.{if_then_else_, _==_, sum}
 use Rattle.rules.specs.Number.{storable}
 use Rattle.rules.specs.Record.{isTrade}
 use Rattle.rules.specs.Journal.{Journal, count}

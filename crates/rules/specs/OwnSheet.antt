@@ -1,7 +1,7 @@
 -- Our own sheet: "Our own sheets give one contract at a time, each to the unfilled line with the least (fill + 1) per
 -- customer contract, the earliest on a tie."
 use Prim.Native.Nat.{ℕ, zero, suc, _+_, _-_, _*_}
-use mathlib.Core.Bool.{Bool, true, false, not, _&&_, _||_}
+use mathlib.Core.Bool.{Bool, not, _&&_, _||_}
 use mathlib.Core.List.{List, [], _∷_, map, flatMap}
 use Rattle.rules.specs.Basics.{if_then_else_, _==_, _atMost_, all}
 use Rattle.rules.specs.Number.{bytesOfAll}

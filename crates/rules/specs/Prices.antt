@@ -1,6 +1,6 @@
 -- What stands at a moment, and "Best prices". A moment is the history before it.
 use Prim.Native.Nat.{ℕ, zero, suc, min, max}
-use mathlib.Core.Bool.{Bool, true, false, not, _&&_, _||_}
+use mathlib.Core.Bool.{Bool, not, _&&_}
 use mathlib.Core.List.{List, [], _∷_, _++_, map}
 use Rattle.rules.specs.Basics.{if_then_else_, _==_, _moreThan_, keep}
 use Rattle.rules.specs.Header.{Header}

@@ -1,11 +1,11 @@
 -- "Reasons on a Satisfaction Order, first that holds".
 use Prim.Native.Nat.{ℕ, _+_, _-_}
-use mathlib.Core.Bool.{Bool, true, false, not, _&&_, _||_}
-use mathlib.Core.List.{List, [], _∷_}
+use mathlib.Core.Bool.{Bool, not, _&&_, _||_}
+use mathlib.Core.List.{[]}
 use Rattle.rules.specs.Basics.{if_then_else_, _==_, _atLeast_, _moreThan_, any, below, _when_, _¦_, firstOf}
 use Rattle.rules.specs.Limits.{closingMinutes}
 use Rattle.rules.specs.Header.{Header}
-use Rattle.rules.specs.Record.{Event, Quote, quote, Trade, trade, Order, order, response, Satisfaction, satisfaction, isSent}
+use Rattle.rules.specs.Record.{Event, Quote, quote, trade, Order, order, response, satisfaction, isSent}
 use Rattle.rules.specs.Journal.{History, count, since, sentAt, tradeAt, beforeTrade, answers}
 use Rattle.rules.specs.Prices.{absent, quotes, standing, nonFirm, inRotation}
 use Rattle.rules.specs.Verdicts.{theBid, neither, buy, sell, shown, worse, sideThrough, isBlock}

@@ -1,11 +1,10 @@
 -- The check of a sheet. "Sheet order: the journal's refusal first; 20; then line by line 21, 22, 24; then trade by trade 25, 26."
 use Prim.Native.Nat.{ℕ, zero, suc, _+_}
-use mathlib.Core.Bool.{Bool, true, false}
 use mathlib.Core.List.{List, [], _∷_, map}
 use lib.ListN.{length, getD}
 use Rattle.rules.specs.Basics.{_==_, _atMost_, keep, sum, Answer, refused, ok, _>>=_, Passed, demand}
 use Rattle.rules.specs.Refusals.{notThreeEach, doesNotAddUp, wrongReason, aboveClaim, notTheDueTotal, shareRuleBroken}
-use Rattle.rules.specs.Number.{Spot, startOf, Reads, numbers}
+use Rattle.rules.specs.Number.{Spot, startOf, numbers}
 use Rattle.rules.specs.Record.{isTrade}
 use Rattle.rules.specs.Journal.{Journal, journal, count}
 use Rattle.rules.specs.Due.{Line, lines, due, Share, shareRule}

@@ -1,6 +1,6 @@
 -- "Verdicts": home quote, sent order, received order, trade, block. Each is given the history before the event.
 use Prim.Native.Nat.{ℕ, _*_, min}
-use mathlib.Core.Bool.{Bool, true, false, not, _&&_, _||_}
+use mathlib.Core.Bool.{Bool, not, _&&_, _||_}
 use mathlib.Core.List.{List, [], _∷_}
 use Rattle.rules.specs.Basics.{if_then_else_, _==_, _atMost_, _atLeast_, within, keep, _when_, _¦_, firstOf}
 use Rattle.rules.specs.Header.{Header, automatic, principal}

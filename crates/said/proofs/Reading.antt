@@ -10,7 +10,7 @@ use lib.Seq.{getD-set-same, getD-set-other}
 use borrow.Author.Tests.{eq-eqb, ne-eqb}
 use Rattle.rules.specs.Basics.{Answer, refused, ok, _>>=_, demand}
 use Rattle.rules.specs.Refusals.{notThreeEach}
-use Rattle.rules.specs.Number.{startOf, numbers}
+use Rattle.rules.specs.Number.{startOf}
 use Rattle.rules.specs.OwnSheet.{SheetLine}
 use Rattle.rules.specs.SheetCheck.{sheetLines}
 use Rattle.number.specs.Reading.{fieldAt, spotAt}

@@ -8,7 +8,7 @@ use native.Mathlib.Omega.{arith}
 use lib.Dec.{leb}
 use lib.ListN.{length, set}
 use borrow.Author.Tests.{ltb-true, ltb-false, lt-ltb, le-ltb, leb-true, leb-false, le-leb}
-use Rattle.rules.specs.Basics.{all, sum}
+use Rattle.rules.specs.Basics.{sum}
 use Rattle.rules.specs.Due.{Line, claimsOf, Share, unfilled}
 use Rattle.rules.specs.OwnSheet.{noLater, isNext, atFirst, giveOne, give, empty}
 use Rattle.rules.specs.SheetCheck.{fillsOf}

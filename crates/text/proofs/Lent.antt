@@ -10,7 +10,7 @@ use mathlib.Core.List.{List, [], _∷_, _++_, append-assoc, append-nil}
 use lib.ListN.{length, getD, take, drop, set, length-append, length-drop, length-set, take-append-drop}
 use lib.Seq.{take-at, drop-at, drop-drop, length-take-le, set-split, append-snoc, take-suc, take-all}
 use borrow.Author.Tests.{le-leb, lt-leb}
-use Rattle.rules.specs.Basics.{ok, refused, _>>=_, demand}
+use Rattle.rules.specs.Basics.{ok, refused, _>>=_}
 use Rattle.rules.specs.Refusals.{outputTooShort}
 use Rattle.rules.specs.Writing.{noPlace, into, lentAfter}
 use Rattle.rules.proofs.Answers.{demand-met, demand-missed}

@@ -2,7 +2,7 @@
 use Prim.Native.Nat.{ℕ, _+_, _≤_, _<_}
 use native.Mathlib.Omega.{arith}
 use mathlib.Core.Path.{_≡_, refl, ap}
-use mathlib.Core.List.{List, [], _∷_, _++_, map, append-assoc}
+use mathlib.Core.List.{List, [], _∷_, _++_, append-assoc}
 use lib.ListN.{length, set, length-append, length-set}
 use Rattle.rules.specs.PrintedDay.{ascii, decimal, Printed, printedLine, firstLine, refusalText}
 use Rattle.text.specs.Lent.{Wrote, Takes}

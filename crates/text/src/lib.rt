@@ -1,5 +1,4 @@
 // The printed day's text in lent memory. What is named put asks for the room and cannot fail; what is named write asks nothing and answers 9 where room lacks.
-ghost use mathlib.Core.Path.{_≡_};
 ghost use Prim.Native.Nat.{_+_, _^_, _≤_, _<_};
 ghost use lib.ListN.{length};
 ghost use Rattle.rules.specs.PrintedDay.{decimal, firstLine, refusalText};

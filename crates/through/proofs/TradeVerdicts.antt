@@ -16,7 +16,7 @@ use Rattle.rules.specs.Journal.{History}
 use Rattle.rules.specs.Prices.{standing, upTo, everyone, away, bestBid, bestOffer}
 use Rattle.rules.specs.Verdicts.{through, sideThrough, throughs, isBlock}
 use Rattle.rules.proofs.Tests.{byTest, keep-more}
-use Rattle.rows.specs.Rows.{Reads, TradeOk, RecOk}
+use Rattle.rows.specs.Rows.{Reads, TradeOk}
 use Rattle.rows.specs.declared.Rec.{Rec}
 use Rattle.rows.proofs.Rows.{words-product-fits}
 use Rattle.quotes.specs.Tables.{Quoted}
