@@ -1,6 +1,5 @@
 // Questions on standard input, answers on standard output, until the input ends or a question cannot be read whole.
-ghost use Prim.Native.Nat.{_≤_};
-use feed::Answer;
+ghost use Prim.Native.Nat.{_<_, _≤_};
 use feed::Input;
 use lent::Lent;
 use libc::STDIN_FILENO;
@@ -47,6 +46,23 @@ impl Reply {
     const UNKNOWN_OP: u64 = 99 * Code::UNIT;
 }
 
+// What an entry answers as one number: a refusal's number × 2^32 + its place, or how much was written.
+struct Coded {
+    refusal: u64,
+    low: u64,
+}
+
+impl Coded {
+    fn of(coded: u64) -> Coded
+        ensures { λ r. ⌜ r .low < 4294967296 ⌝ }
+    {
+        Coded {
+            refusal: coded / Code::UNIT,
+            low: coded % Code::UNIT,
+        }
+    }
+}
+
 fn least(a: u64, b: usize) -> usize
     ensures { λ r. ⌜ r ≤ b ⌝ }
 {
@@ -59,7 +75,7 @@ fn send_head(head: &[u8; Reply::HEAD]) -> bool {
 
 // Sends what the entry answered, and the bytes that it says it wrote.
 fn say(coded: u64, out: &[u8]) -> bool {
-    let answer = Answer::of(coded);
+    let answer = Coded::of(coded);
     let mut place = answer.low;
     let mut n: usize = 0;
     if answer.refusal == 0 {
@@ -79,7 +95,7 @@ fn say(coded: u64, out: &[u8]) -> bool {
 
 // An entry's count of words, of eight bytes or of four, as a count of bytes.
 fn in_bytes(coded: u64, long: bool) -> u64 {
-    let answer = Answer::of(coded);
+    let answer = Coded::of(coded);
     if answer.refusal != 0 {
         return coded;
     }

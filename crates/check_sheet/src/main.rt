@@ -1,9 +1,9 @@
 // Checks a sheet against its journal: `check_sheet JOURNAL SHEET` prints `accepted`, or the refusal.
-use feed::Answer;
 use feed::Input;
 use feed::Room;
 use libc::STDERR_FILENO;
 use libc::STDOUT_FILENO;
+use said::Checked;
 
 fn check(journal: &[u8], n: usize, sheet: &[u8], k: usize) {
     if journal.len() < n {
@@ -12,9 +12,8 @@ fn check(journal: &[u8], n: usize, sheet: &[u8], k: usize) {
     if sheet.len() < k {
         return;
     }
-    let answer = Answer::of(desk::hasurenta_check(&journal[..n], &sheet[..k]));
-    if answer.refusal != 0 {
-        feed::refused(STDOUT_FILENO, answer);
+    if let Checked::Refused { no, place } = answers::check_sheet(&journal[..n], &sheet[..k]) {
+        feed::refused(STDOUT_FILENO, no, place);
         return;
     }
     io::write_all(STDOUT_FILENO, b"accepted\n");

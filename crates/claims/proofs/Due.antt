@@ -72,6 +72,7 @@ lines-none h =
       lines = refl;
       by-trade = λ m hm. rw (none-of-trade m);
       sums = λ m hm. none-claimed m;
+      told = λ i hi. let z : ⊥ = omega arith in elim z [ ];
     }
 
 pub nothing-filed : Filing (replicate 6144 0) 0

@@ -11,12 +11,12 @@ use borrow.Author.Tests.{eq-eqb, ne-eqb, eqb-true, eqb-false}
 use Rattle.rules.specs.Basics.{if_then_else_, _==_, keep, sum}
 use Rattle.rules.specs.Header.{Header}
 use Rattle.rules.specs.Record.{Event, field, satisfaction, isSatisfaction, satisfactionKind}
-use Rattle.rules.specs.Journal.{History, count}
-use Rattle.rules.specs.Reasons.{caseOf, customers, reason}
+use Rattle.rules.specs.Journal.{History, Happened, count, nth}
+use Rattle.rules.specs.Reasons.{caseOf, senderSide, customers, reason}
 use Rattle.rules.specs.Due.{Line, lineOf, linesOf, ofTrade, claimsOf, claim}
 use Rattle.rules.proofs.Tests.{byTest, keep-more}
 use Rattle.rules.proofs.Below.{one-more-below, same-below}
-use Rattle.rules.proofs.Histories.{count-cons, count-skip}
+use Rattle.rules.proofs.Histories.{count-cons, count-skip, nth-skip, nth-older, nth-new}
 use Rattle.rows.specs.Rows.{Reads, word, Put, RecOk}
 use Rattle.rows.specs.declared.Rec.{Rec}
 use Rattle.orders.specs.Orders.{Headed, Heads}
@@ -24,8 +24,8 @@ use Rattle.trades.specs.Trades.{Traded}
 use Rattle.reasons.specs.declared.Facts.{Facts}
 use Rattle.reasons.specs.Reasons.{reasonOf, claimOf}
 use Rattle.claims.specs.Facts.{factsOf}
-use Rattle.claims.specs.Lines.{lineAt, linesFrom, numberAt, manyOf, sumOf, tradeLines, Lined, Filing, Fileable, Filed, Placed, ClaimsStep}
-use Rattle.claims.proofs.Facts.{reason-is, customers-are, claim-is}
+use Rattle.claims.specs.Lines.{lineAt, linesFrom, numberAt, manyOf, sumOf, tradeLines, priceThere, Told, Lined, Filing, Fileable, Filed, Placed, ClaimsStep}
+use Rattle.claims.proofs.Facts.{reason-is, customers-are, side-is, there-is, claim-is}
 
 -- ---- one line more at the end
 
@@ -102,6 +102,7 @@ lines-alone h past cl n e ne held =
       lines = held .lines ∙ same;
       by-trade = λ m hm. held .by-trade m hm ∙ ap (ofTrade m) same;
       sums = λ m hm. held .sums m hm ∙ ap (λ (l : List Line). sum (claimsOf (ofTrade m l))) same;
+      told = λ i hi. rw (nth-skip isSatisfaction i e past (rw (ne-eqb (e .kind) satisfactionKind ne))) (held .told i hi);
     }
 
 -- ---- a Satisfaction Order
@@ -261,6 +262,16 @@ module _ (r : Rec) (home exchanges close : ℕ) (tr sn : List ℕ) (trades : ℕ
             f .others j 4 low (omega arith) ne,
           )
 
+      told-kept : (j : ℕ) → j < n → {order : Happened} → Told cl j order → Told cl2 j order
+      told-kept j hj t =
+          let low : j < 512 = omega (arith, fi .few) in
+          let ne : j ≡ n → ⊥ = λ z. omega arith in
+          record {
+            sender = f .others j 5 low (omega arith) ne ∙ t .sender;
+            side = f .others j 6 low (omega arith) ne ∙ t .side;
+            there = f .others j 7 low (omega arith) ne ∙ t .there;
+          }
+
       -- ---- the table alone
 
       filing-after : Filing cl2 (n + 1)
@@ -320,9 +331,9 @@ module _ (r : Rec) (home exchanges close : ℕ) (tr sn : List ℕ) (trades : ℕ
             close (word r 2) (r .time) ec (sym (rd .fields 2)) (rd .time)
 
         contracts-are : k .customers ≡ customers (caseOf past e)
+        unfolding factsOf
         contracts-are =
             ap (λ (f : Facts). f .customers) ek
-            ∙ ap (λ (f : Facts). f .customers) (sym (facts-read tr sn m (x - 1) home close (word r 2) (r .time)))
             ∙ customers-are h past tr sn trades m (x - 1) home tv known sends (is .home) (ok .from-one) home-in e names-trade names-sender
 
         due-is : due ≡ claim h (caseOf past e)
@@ -330,6 +341,28 @@ module _ (r : Rec) (home exchanges close : ℕ) (tr sn : List ℕ) (trades : ℕ
             ed
             ∙ claim-is h past tr sn trades m (x - 1) home tv known sends (is .home) (ok .from-one) home-in e names-trade names-sender
             why (k .customers) (word r 3) why-is contracts-are (sym (rd .fields 3))
+
+        newest-told : Told cl2 n (record { event = e; before = past })
+        unfolding factsOf
+        newest-told =
+            record {
+              sender = f .here 5 (omega arith) ∙ rd .fields 1;
+              side =
+                  f .here 6 (omega arith) ∙ ap (λ (f : Facts). f .side) ek
+                  ∙ side-is h past tr sn trades m (x - 1) home tv known sends (is .home) (ok .from-one) home-in e names-trade names-sender;
+              there =
+                  f .here 7 (omega arith) ∙ ap (λ (f : Facts). f .there) ek
+                  ∙ there-is h past tr sn trades m (x - 1) home tv known sends (is .home) (ok .from-one) home-in e names-trade names-sender;
+            }
+
+        told-after : (i : ℕ) → i < n + 1 → Told cl2 i (nth isSatisfaction i (e ∷ past))
+        told-after i hi =
+            byTest (eqb i n)
+            (λ q. let new : i ≡ n = eqb-true i n q in
+            rw (new, nth-new isSatisfaction n e past (eq-eqb (e .kind) satisfactionKind sat) (held .numbered)) newest-told)
+            (λ q. let ne : i ≡ n → ⊥ = eqb-false i n q in
+            let old : i < n = omega (arith, ne) in
+            rw (nth-older isSatisfaction i e past (omega (arith, held .numbered))) (told-kept i old (held .told i old)))
 
         newest-line : lineAt cl2 n ≡ lineOf h past n e
         newest-line = line-is cl2 n why (k .customers) due (word r 1) (k .side) (k .there) r h e past rd (f .here) why-is contracts-are due-is
@@ -377,6 +410,7 @@ module _ (r : Rec) (home exchanges close : ℕ) (tr sn : List ℕ) (trades : ℕ
               lines = lines-after;
               by-trade = by-trade-after;
               sums = sums-after;
+              told = told-after;
             }
 
       pub order-taken : ClaimsStep r home exchanges close tr sn trades cl n cl2 (n + 1)

@@ -1,6 +1,6 @@
 -- The table of Satisfaction Orders: a row of eight words for each (trade, size, reason, customer contracts, claim), and behind them
 -- for each trade the numbers of its lines in their order, how many they are, and the sum of their claims. The row's last three words
--- (sender, side traded through, price there) are for a clerk: no verdict looks at them.
+-- (sender, side traded through, price there) are what a clerk is told beside them: no verdict looks at them.
 use mathlib.Core.Path.{_≡_}
 use mathlib.Core.List.{List, _∷_, map}
 use Prim.Native.Nat.{ℕ, _+_, _*_, _<_, _≤_}
@@ -8,13 +8,14 @@ use lib.ListN.{getD, length, take}
 use Rattle.rules.specs.Basics.{below, sum}
 use Rattle.rules.specs.Limits.{mostTrades, mostSatisfactionOrders, mostContracts}
 use Rattle.rules.specs.Header.{Header}
-use Rattle.rules.specs.Record.{Event, isSatisfaction, satisfactionKind}
-use Rattle.rules.specs.Journal.{History, count}
+use Rattle.rules.specs.Record.{Event, satisfaction, isSatisfaction, satisfactionKind}
+use Rattle.rules.specs.Journal.{History, Happened, count, nth}
+use Rattle.rules.specs.Reasons.{Case, caseOf, senderQuote, senderSide}
 use Rattle.rules.specs.Due.{Line, linesOf, ofTrade, claimsOf, due}
 use Rattle.rows.specs.Rows.{Reads, word, SatisfactionOk}
 use Rattle.rows.specs.declared.Rec.{Rec}
 use Rattle.orders.specs.Orders.{Heads}
-use Rattle.trades.specs.Trades.{Traded}
+use Rattle.trades.specs.Trades.{priceOn, Traded}
 
 abbrev pub lineAt : List ℕ → ℕ → Line
 lineAt cl k =
@@ -46,6 +47,18 @@ sumOf cl m = getD cl ((640 + m) * 8 + 1) 0
 unfoldable pub tradeLines : List ℕ → ℕ → ℕ → List Line
 tradeLines cl m k = map (λ i. lineAt cl (numberAt cl m i)) (below k)
 
+-- ---- what a clerk is told
+
+-- the price on the side traded through
+unfoldable pub priceThere : Case → ℕ
+priceThere k = priceOn (senderSide k) ((senderQuote k) .bid) ((senderQuote k) .offer)
+
+-- row i, of the Satisfaction Order that came so
+pub record Told (cl : List ℕ) (i : ℕ) (order : Happened) : Type 0 where
+  pub sender : getD cl (i * 8 + 5) 0 ≡ (satisfaction (order .event)) .sender
+  pub side : getD cl (i * 8 + 6) 0 ≡ senderSide (caseOf (order .before) (order .event))
+  pub there : getD cl (i * 8 + 7) 0 ≡ priceThere (caseOf (order .before) (order .event))
+
 -- ---- the table beside the history
 
 pub record Lined (h : Header) (past : History) (cl : List ℕ) (n : ℕ) : Type 0 where
@@ -53,6 +66,7 @@ pub record Lined (h : Header) (past : History) (cl : List ℕ) (n : ℕ) : Type 
   pub lines : linesFrom cl n ≡ linesOf h past
   pub by-trade : (m : ℕ) → m < mostTrades → tradeLines cl m (manyOf cl m) ≡ ofTrade m (linesOf h past)
   pub sums : (m : ℕ) → m < mostTrades → sumOf cl m ≡ sum (claimsOf (ofTrade m (linesOf h past)))
+  pub told : (i : ℕ) → i < n → Told cl i (nth isSatisfaction i past)
 
 -- ---- what holds of the table alone
 

@@ -170,7 +170,7 @@ pub fn due_total(cl: &[u32; 6144], tr: &[u32; 1024], m: usize) -> u32
 {
     let claims = cl[(Line::SUMS + m) * 8 + 1];
     if tr[m * 8 + Kept::CAPPED] == 1 {
-        return trades::least(tr[m * 8 + Kept::SIZE], claims);
+        return rows::lesser(tr[m * 8 + Kept::SIZE], claims);
     }
     claims
 }

@@ -1,7 +1,7 @@
 // "The day program reads a journal on standard input. It prints `refused 2 at 0` (number, place), or a list".
-use feed::Answer;
 use feed::Input;
 use feed::Room;
+use journal::Rewritten;
 use libc::STDOUT_FILENO;
 
 struct List;
@@ -15,12 +15,8 @@ fn print(journal: &[u8], n: usize, list: &mut [u8]) {
     if journal.len() < n {
         return;
     }
-    let answer = Answer::of(desk::hasurenta_day(&journal[..n], list));
-    if answer.refusal != 0 {
-        feed::refused(STDOUT_FILENO, answer);
-        return;
-    }
-    feed::send(list, answer.low as usize);
+    let answered: Rewritten = answers::print_day(&journal[..n], list);
+    feed::answer(answered, list, STDOUT_FILENO);
 }
 
 fn main() {

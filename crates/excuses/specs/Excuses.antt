@@ -7,10 +7,10 @@ use Prim.Native.Nat.{ℕ, _+_, _-_, _*_, _<_, _≤_}
 use lib.ListN.{getD, length}
 use Rattle.rules.specs.Basics.{if_then_else_, _==_, _moreThan_, any}
 use Rattle.rules.specs.Limits.{mostSentOrders}
-use Rattle.rules.specs.Record.{Event, field, order, isSent, sentKind, responseKind, quoteKind}
+use Rattle.rules.specs.Record.{buy, Event, field, order, isSent, sentKind, responseKind, quoteKind}
 use Rattle.rules.specs.Journal.{History, count, since, sentAt}
 use Rattle.rules.specs.Prices.{absent}
-use Rattle.rules.specs.Verdicts.{buy, worse}
+use Rattle.rules.specs.Verdicts.{worse}
 use Rattle.rules.specs.Reasons.{endsExcuse, excuseWait, hadSent}
 use Rattle.rows.specs.Rows.{Reads, word, QuoteOk, OrderOk}
 use Rattle.rows.specs.declared.Rec.{Rec}

@@ -8,6 +8,7 @@ ghost use Rattle.quotes.specs.Tables.{Within};
 ghost use Rattle.excuses.specs.Excuses.{Chains, Placed, Filled, ExcusesStep, HadSent, backed, outlived, excusing};
 use numbered::SentOrder;
 use rows::Rec;
+use rows::Way;
 
 // What is kept of a sent order: its six fields, its time, whether its excuse stands.
 pub struct Excuse;
@@ -22,11 +23,6 @@ impl Excuse {
     pub const TIME: usize = 6;
 
     pub const STANDS: usize = 7;
-
-    // "side (1 buy, 2 sell)"
-    pub const BUY: u32 = 1;
-
-    pub const SELL: u32 = 2;
 
     // "more than 20,000 ms before the trade"
     pub const WAIT: u64 = 20000;
@@ -77,7 +73,7 @@ fn backs_away(side: u32, price: u32, bid: u32, offer: u32) -> bool
     requires { ⌜ 1 ≤ price ⌝ }
     ensures { λ r. ⌜ r ≡ backed side price bid offer ⌝ }
 {
-    if side == Excuse::BUY {
+    if side == Way::BUY {
         if offer == 0 {
             return true;
         }

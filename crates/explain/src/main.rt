@@ -3,7 +3,6 @@ ghost use Prim.Native.Nat.{_≤_, _<_};
 ghost use Rattle.rules.specs.Limits.{mostTrades, mostSatisfactionOrders};
 ghost use Rattle.claims.specs.Lines.{Filing};
 use claims::Line;
-use feed::Answer;
 use feed::Input;
 use feed::Room;
 use libc::STDOUT_FILENO;
@@ -128,15 +127,7 @@ fn explain(journal: &[u8], n: usize) {
     let mut cl = [0u32; 6144];
     let mut rows = [0u32; 1];
     match survey::survey(&journal[..n], &mut tr, &mut cl, &mut rows) {
-        Surveyed::Stopped { no, place } => {
-            feed::refused(
-                STDOUT_FILENO,
-                Answer {
-                    refusal: no as u64,
-                    low: place as u64,
-                },
-            )
-        }
+        Surveyed::Stopped { no, place } => feed::refused(STDOUT_FILENO, no, place),
         Surveyed::Whole {
             trades,
             lines,

@@ -1,10 +1,9 @@
 // What the programs share: lent buffers filled from standard input or a named file, answers sent, refusals said. An answer goes to standard output, whatever is no answer to standard error.
-ghost use Prim.Native.Nat.{_<_};
+use journal::Rewritten;
 use libc::STDIN_FILENO;
 use libc::STDOUT_FILENO;
 use number::Number;
 use numbered::SatisfactionOrder;
-use rows::Code;
 use text::Written;
 use walk::Journal;
 
@@ -80,23 +79,6 @@ pub fn file(i: usize, buf: &mut [u8]) -> Input {
     got
 }
 
-// What an entry answers as one number: a refusal's number × 2^32 + its place, or how much was written.
-pub struct Answer {
-    pub refusal: u64,
-    pub low: u64,
-}
-
-impl Answer {
-    pub fn of(coded: u64) -> Answer
-        ensures { λ r. ⌜ r .low < 4294967296 ⌝ }
-    {
-        Answer {
-            refusal: coded / Code::UNIT,
-            low: coded % Code::UNIT,
-        }
-    }
-}
-
 // Sends the first n bytes of out.
 fn send_to(fd: i32, out: &[u8], n: usize) -> bool {
     if out.len() < n {
@@ -114,13 +96,22 @@ pub fn send(out: &[u8], n: usize) -> bool {
 }
 
 // "It prints `refused 2 at 0` (number, place)"
-pub fn refused(fd: i32, answer: Answer) {
+pub fn refused(fd: i32, no: u32, place: usize) {
     let mut line = [0u8; Room::REFUSAL];
-    let no = (answer.refusal % Code::UNIT) as u32;
-    let Written::To(n) = text::write_refusal(&mut line, no, answer.low as usize) else {
+    let Written::To(n) = text::write_refusal(&mut line, no, place) else {
         return;
     };
     send_to(fd, &line, n);
+}
+
+// What an entry wrote is sent; its refusal is said.
+pub fn answer(answered: Rewritten, out: &[u8], fd: i32) {
+    match answered {
+        Rewritten::Written { bytes } => {
+            send(out, bytes);
+        }
+        Rewritten::Unwritten { no, place } => refused(fd, no, place),
+    }
 }
 
 // The time so far after a record; past the day it only has to stay past it.

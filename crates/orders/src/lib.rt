@@ -1,11 +1,13 @@
 // The verdicts on sent and received orders. A buy order goes for the offer, a sell order for the bid.
 ghost use mathlib.Core.Path.{_≡_};
-ghost use Prim.Native.Nat.{_≤_, _<_, min};
+ghost use Prim.Native.Nat.{_≤_, _<_};
 ghost use Rattle.quotes.specs.Tables.{Within};
 ghost use Rattle.orders.specs.Orders.{worseOf, Headed, OrderIs, ShownIs, BestIs, SentIs, NoDutyIs, FirmIs, DutyIs};
 use quotes::Quote;
-use quotes::Status;
 use rows::Rec;
+use rows::Status;
+use rows::Type;
+use rows::Way;
 
 // What a record of kind 4 or 6 holds: `other` is "to" of a sent order, "from" of a received one.
 pub struct Order {
@@ -15,14 +17,6 @@ pub struct Order {
     pub side: u32,
     pub price: u32,
     pub size: u32,
-}
-
-impl Order {
-    // "type (1 P/A, 2 principal)"
-    pub const LINKED: u32 = 1;
-
-    // "side (1 buy, 2 sell)"
-    pub const BUY: u32 = 1;
 }
 
 // S.
@@ -78,7 +72,7 @@ pub fn order_of(r: Rec) -> Order
 fn is_worse(side: u32, there: u32, price: u32) -> bool
     ensures { λ r. ⌜ r ≡ worseOf side there price ⌝ }
 {
-    if side == Order::BUY {
+    if side == Way::BUY {
         return prices::is_above(there, price);
     }
     prices::is_above(price, there)
@@ -89,7 +83,7 @@ fn shown_price(q: &[u32; 2048], exchange: usize, series: usize, side: u32) -> u3
     ensures { λ r. ⌜ ShownIs (now (q .entry)) exchange series side r ⌝ }
 {
     let k = prices::place(exchange - 1, series);
-    if side == Order::BUY {
+    if side == Way::BUY {
         return q[k + Quote::OFFER];
     }
     q[k + Quote::BID]
@@ -99,7 +93,7 @@ fn best_price(q: &[u32; 2048], n: usize, series: usize, side: u32) -> u32
     requires { ⌜ (n ≤ 8) × (series < 32) ⌝ }
     ensures { λ r. ⌜ BestIs (now (q .entry)) n series side r ⌝ }
 {
-    if side == Order::BUY {
+    if side == Way::BUY {
         return prices::best_offer(q, n, series);
     }
     prices::best_bid(q, n, series)
@@ -141,12 +135,6 @@ fn no_duty(q: &[u32; 2048], st: &[u32; 8], n: usize, home: usize, o: Order) -> u
     0
 }
 
-fn lesser(a: u32, b: u32) -> u32
-    ensures { λ r. ⌜ r ≡ min a b ⌝ }
-{
-    if a < b { a } else { b }
-}
-
 // "for P/A the lesser of both automatic sizes; for principal home's principal size"
 fn firm_size(n: usize, home: usize, sizes: &[u32; 16], o: Order) -> u32
     requires { ⌜ Headed n home × ((1 ≤ o .other) × (o .other ≤ n)) ⌝ }
@@ -154,8 +142,8 @@ fn firm_size(n: usize, home: usize, sizes: &[u32; 16], o: Order) -> u32
 {
     let ours = 2 * (home - 1);
     let theirs = 2 * (o.other - 1);
-    if o.kind == Order::LINKED {
-        return lesser(sizes[ours], sizes[theirs]);
+    if o.kind == Type::LINKED {
+        return rows::lesser(sizes[ours], sizes[theirs]);
     }
     sizes[ours + 1]
 }

@@ -21,15 +21,6 @@ impl Quote {
     pub const OFFER_CUSTOMERS: usize = 7;
 }
 
-pub struct Status;
-
-impl Status {
-    // "0 firm, 1 non-firm, 2 rotation"
-    pub const NON_FIRM: u32 = 1;
-
-    pub const ROTATION: u32 = 2;
-}
-
 // The row of an exchange's quotes in a series.
 pub fn row_of(exchange: usize, series: usize) -> usize
     requires { ⌜ Within exchange series ⌝ }

@@ -6,11 +6,10 @@ use Prim.Native.Nat.{ℕ, _+_, _-_, _≤_, _<_, min}
 use native.Mathlib.Omega.{arith}
 use lib.Dec.{eqb, ltb}
 use borrow.Author.Tests.{eq-eqb, ne-eqb, le-leb, lt-leb, not-true}
-use Rattle.rules.specs.Basics.{if_then_else_, _==_, Row, _when_, _¦_, firstOf, all}
-use Rattle.rules.specs.Reasons.{threeMinutes}
+use Rattle.rules.specs.Basics.{if_then_else_, _==_, Row, firstOf, all}
 use Rattle.rules.proofs.Tests.{byTest, and-left, and-right}
 use Rattle.reasons.specs.declared.Facts.{Facts}
-use Rattle.reasons.specs.Reasons.{laterThan, lateAt, requiredOf, tradeReason, lateReason, priceReason, reasonOf, claimOf}
+use Rattle.reasons.specs.Reasons.{laterThan, lateAt, requiredOf, byTrade, byTime, byPrice, tradeReason, lateReason, priceReason, reasonOf, claimOf}
 
 pub later-by-words : (report allowed now a b : ℕ) → (a ≡ report) × (a < 4294967296) → (b ≡ now) × (b < 4294967296) → ltb (a + allowed) b ≡ laterThan report allowed now
 unfolding laterThan
@@ -151,25 +150,14 @@ module _ (k : Facts) where
   unfolding reasonOf tradeReason lateReason priceReason all
   parts =
       first-append
-      (10 when k .side == 0 ¦ 2 when k .excused == 1 ¦ 3 when k .status == 1 ¦ 4 when k .initiator == 0 && k .home == 1
-      ¦ 5 when k .status == 2 ¦ 6 when k .home == 2 ¦ 7 when k .complex == 1 ¦ [])
-      (8 when k .initiator == 0 && lateAt (k .report) (k .close) (k .time)
-      ¦ 9 when not (k .initiator == 0) && laterThan (k .report) threeMinutes (k .time)
-      ¦ 11 when k .asked == k .price && not (k .block == 1)
-      ¦ 12 when not (k .asked == requiredOf (k .block) (k .price) (k .there))
-      ¦ 13 when k .customers == 0
-      ¦ [])
+      (byTrade (k .side) (k .excused) (k .status) (k .home) (k .initiator) (k .complex))
+      (byTime (k .initiator) (k .report) (k .close) (k .time) ++ byPrice (k .asked) (k .price) (k .block) (k .there) (k .customers))
       refl
       ∙ ap (λ (later : ℕ). if tradeReason (k .side) (k .excused) (k .status) (k .home) (k .initiator) (k .complex) == 0
       then later else tradeReason (k .side) (k .excused) (k .status) (k .home) (k .initiator) (k .complex))
       (first-append
-      (8 when k .initiator == 0 && lateAt (k .report) (k .close) (k .time)
-      ¦ 9 when not (k .initiator == 0) && laterThan (k .report) threeMinutes (k .time)
-      ¦ [])
-      (11 when k .asked == k .price && not (k .block == 1)
-      ¦ 12 when not (k .asked == requiredOf (k .block) (k .price) (k .there))
-      ¦ 13 when k .customers == 0
-      ¦ [])
+      (byTime (k .initiator) (k .report) (k .close) (k .time))
+      (byPrice (k .asked) (k .price) (k .block) (k .there) (k .customers))
       refl)
 
   module _ (t : ℕ) (et : t ≡ tradeReason (k .side) (k .excused) (k .status) (k .home) (k .initiator) (k .complex)) where

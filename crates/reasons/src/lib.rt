@@ -5,8 +5,9 @@ ghost use Prim.Native.Nat.{_≤_};
 ghost use Rattle.rules.specs.Reasons.{threeMinutes};
 ghost use Rattle.reasons.specs.Reasons.{laterThan, lateAt, requiredOf, tradeReason, lateReason, priceReason, reasonOf, claimOf};
 use prices::Side;
-use quotes::Status;
 use rows::Closing;
+use rows::Complex;
+use rows::Status;
 
 // How long after the report a Satisfaction Order may come.
 pub struct Receipt;
@@ -99,7 +100,7 @@ fn trade_reason(
     if home == Status::ROTATION {
         return 6;
     }
-    if complex == 1 {
+    if complex == Complex::YES {
         return 7;
     }
     0
@@ -158,7 +159,7 @@ pub fn claim_of(why: u32, size: u32, customers: u32, traded: u32) -> u32
     ensures { λ r. ⌜ r ≡ claimOf why size customers traded ⌝ }
 {
     if why == 0 {
-        return trades::least(size, trades::least(customers, traded));
+        return rows::lesser(size, rows::lesser(customers, traded));
     }
     0
 }

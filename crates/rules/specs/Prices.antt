@@ -4,7 +4,7 @@ use mathlib.Core.Bool.{Bool, not, _&&_}
 use mathlib.Core.List.{List, [], _∷_, _++_, map}
 use Rattle.rules.specs.Basics.{if_then_else_, _==_, _moreThan_, keep}
 use Rattle.rules.specs.Header.{Header}
-use Rattle.rules.specs.Record.{Event, Quote, quote, status, isQuote, isStatus}
+use Rattle.rules.specs.Record.{firm, notFirm, rotation, Event, Quote, quote, status, isQuote, isStatus}
 use Rattle.rules.specs.Journal.{History}
 
 -- ---- "A price 0 is absent: above, below or equal to nothing, in every verdict."
@@ -37,19 +37,15 @@ unfoldable pub standing : ℕ → ℕ → History → Quote
 standing x s [] = noQuote x s
 standing x s (e ∷ past) = if quotes x s e then quote e else standing x s past
 
--- "0 firm, 1 non-firm, 2 rotation"
-abbrev pub firm : ℕ
-firm = 0
-
 unfoldable pub statusOf : ℕ → History → ℕ
 statusOf x [] = firm
 statusOf x (e ∷ past) = if isStatus e && (status e) .exchange == x then (status e) .status else statusOf x past
 
 abbrev pub nonFirm : ℕ → History → Bool
-nonFirm x past = statusOf x past == 1
+nonFirm x past = statusOf x past == notFirm
 
 abbrev pub inRotation : ℕ → History → Bool
-inRotation x past = statusOf x past == 2
+inRotation x past = statusOf x past == rotation
 
 -- ---- the exchanges, the lowest first
 

@@ -5,10 +5,10 @@ use mathlib.Core.List.{[]}
 use Rattle.rules.specs.Basics.{if_then_else_, _==_, _atLeast_, _moreThan_, any, below, _when_, _¦_, firstOf}
 use Rattle.rules.specs.Limits.{closingMinutes}
 use Rattle.rules.specs.Header.{Header}
-use Rattle.rules.specs.Record.{Event, Quote, quote, trade, Order, order, response, satisfaction, isSent}
+use Rattle.rules.specs.Record.{complexTrade, buy, sell, Event, Quote, quote, trade, Order, order, response, satisfaction, isSent}
 use Rattle.rules.specs.Journal.{History, count, since, sentAt, tradeAt, beforeTrade, answers}
 use Rattle.rules.specs.Prices.{absent, quotes, standing, nonFirm, inRotation}
-use Rattle.rules.specs.Verdicts.{theBid, neither, buy, sell, shown, worse, sideThrough, isBlock}
+use Rattle.rules.specs.Verdicts.{theBid, neither, shown, worse, sideThrough, isBlock}
 
 -- ---- the case of a Satisfaction Order: itself, its trade, and the history before the trade. "Prices, customer contracts
 -- and statuses are those at the trade."
@@ -115,7 +115,7 @@ reason h k =
     ¦ 4 when not initiated && nonFirm (h .home) (k .before)
     ¦ 5 when inRotation (c .sender) (k .before)
     ¦ 6 when inRotation (h .home) (k .before)
-    ¦ 7 when t .complex == 1
+    ¦ 7 when t .complex == complexTrade
     ¦ 8 when not initiated && lateBy (timeToClaim h (k .trade)) (k .trade) (k .claim)
     ¦ 9 when initiated && lateBy threeMinutes (k .trade) (k .claim)
     ¦ 11 when c .price == t .price && not (isBlock h (k .before) t)

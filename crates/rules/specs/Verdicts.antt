@@ -4,7 +4,7 @@ use mathlib.Core.Bool.{Bool, not, _&&_, _||_}
 use mathlib.Core.List.{List, [], _∷_}
 use Rattle.rules.specs.Basics.{if_then_else_, _==_, _atMost_, _atLeast_, within, keep, _when_, _¦_, firstOf}
 use Rattle.rules.specs.Header.{Header, automatic, principal}
-use Rattle.rules.specs.Record.{Quote, Trade, Order}
+use Rattle.rules.specs.Record.{crossForm, otherForm, linked, buy, Quote, Trade, Order}
 use Rattle.rules.specs.Journal.{History}
 use Rattle.rules.specs.Prices.{absent, _isAbove_, _isBelow_, _equals_, standing, nonFirm, away, bestBid, bestOffer}
 
@@ -51,13 +51,7 @@ homeQuote h past q =
     lowestNamed 2 (λ x. crosses q (standing x (q .series) past)) (away h)
     (lowestNamed 1 (λ x. locks q (standing x (q .series) past)) (away h) (verdict 0 0 neither))
 
--- ---- orders: "side (1 buy, 2 sell)"; a buy order goes for the offer, a sell order for the bid
-
-abbrev pub buy : ℕ
-buy = 1
-
-abbrev pub sell : ℕ
-sell = 2
+-- ---- orders: a buy order goes for the offer, a sell order for the bid
 
 abbrev pub shown : ℕ → Quote → ℕ
 shown side q = if side == buy then q .offer else q .bid
@@ -77,9 +71,9 @@ sentOrder h past o =
 
 -- ---- Received order
 
--- "for P/A the lesser of both automatic sizes; for principal home's principal size". "type (1 P/A, 2 principal)"
+-- "for P/A the lesser of both automatic sizes; for principal home's principal size"
 unfoldable pub firmSize : Header → Order → ℕ
-firmSize h o = if o .type == 1 then min (automatic h (h .home)) (automatic h (o .other)) else principal h (h .home)
+firmSize h o = if o .type == linked then min (automatic h (h .home)) (automatic h (o .other)) else principal h (h .home)
 
 -- "No duty, reason 1: home's bid (sell) or offer (buy) is absent or worse than the price. Reason 2: it is not the best.
 -- Reason 3: home is non-firm. First that holds."
@@ -121,4 +115,4 @@ unfoldable pub isBlock : Header → History → Trade → Bool
 isBlock h past t =
     t .size atLeast 500 && t .price * t .size atLeast 150_000
     && ((t .price) isBelow (bestBid h (t .series) past) || (t .price) isAbove (bestOffer h (t .series) past))
-    && within 1 2 (t .form)
+    && within crossForm otherForm (t .form)

@@ -39,7 +39,7 @@ unfoldable pub countsOf : ℕ → ℕ → ℕ → ℕ
 countsOf home x side = if x == home then 0 else if side == neither then 0 else 1
 
 unfoldable pub formOf : ℕ → Bool
-formOf form = within 1 2 form
+formOf form = within paper.crossForm paper.otherForm form
 
 -- ---- the answers
 

@@ -4,6 +4,7 @@ ghost use Prim.Native.Nat.{_*_, _≤_, _<_};
 ghost use Rattle.through.specs.Trades.{throughOf, countsOf, formOf, TradeIs, CountIs, BlockIs, TradePlaced, BlockFound};
 use prices::Side;
 use quotes::Quote;
+use rows::Form;
 use rows::Rec;
 
 // What a trade's verdicts look at.
@@ -21,11 +22,6 @@ impl Block {
 
     // Price in cents times contracts.
     pub const LEAST_VALUE: u64 = 150000;
-
-    // "block form (0 none, 1 cross, 2 other not at the quote)"
-    pub const CROSS: u32 = 1;
-
-    pub const OTHER: u32 = 2;
 }
 
 pub fn trade_of(r: Rec) -> Trade
@@ -90,10 +86,10 @@ fn value(price: u32, size: u32) -> u64
 fn block_form(form: u32) -> bool
     ensures { λ r. ⌜ r ≡ formOf form ⌝ }
 {
-    if form == Block::CROSS {
+    if form == Form::CROSS {
         return true;
     }
-    form == Block::OTHER
+    form == Form::OTHER
 }
 
 // The best prices come last: they take a walk over all exchanges.

@@ -1,18 +1,18 @@
 // The day totals of the journal on standard input: `sent N filled N cancelled N pending N`, or the refusal.
-use feed::Answer;
 use feed::Input;
 use feed::Room;
+use journal::DayTotals;
 use libc::STDOUT_FILENO;
 
-fn print(sums: &[u64; 4]) {
+fn print(sent: u64, filled: u64, cancelled: u64, pending: u64) {
     io::write_all(STDOUT_FILENO, b"sent ");
-    io::print_decimal(STDOUT_FILENO, sums[0]);
+    io::print_decimal(STDOUT_FILENO, sent);
     io::write_all(STDOUT_FILENO, b" filled ");
-    io::print_decimal(STDOUT_FILENO, sums[1]);
+    io::print_decimal(STDOUT_FILENO, filled);
     io::write_all(STDOUT_FILENO, b" cancelled ");
-    io::print_decimal(STDOUT_FILENO, sums[2]);
+    io::print_decimal(STDOUT_FILENO, cancelled);
     io::write_all(STDOUT_FILENO, b" pending ");
-    io::print_decimal(STDOUT_FILENO, sums[3]);
+    io::print_decimal(STDOUT_FILENO, pending);
     io::write_all(STDOUT_FILENO, b"\n");
 }
 
@@ -20,13 +20,15 @@ fn total(journal: &[u8], n: usize) {
     if journal.len() < n {
         return;
     }
-    let mut sums = [0u64; 4];
-    let answer = Answer::of(desk::hasurenta_totals(&journal[..n], &mut sums));
-    if answer.refusal != 0 {
-        feed::refused(STDOUT_FILENO, answer);
-        return;
+    match journal::totals(&journal[..n]) {
+        DayTotals::Totals {
+            sent,
+            filled,
+            cancelled,
+            pending,
+        } => print(sent, filled, cancelled, pending),
+        DayTotals::NoTotals { no, place } => feed::refused(STDOUT_FILENO, no, place),
     }
-    print(&sums);
 }
 
 fn main() {

@@ -8,10 +8,10 @@ use lib.ListN.{getD, length}
 use Rattle.rules.specs.Basics.{if_then_else_, _==_, _moreThan_, any, keep}
 use Rattle.rules.specs.Limits.{mostTrades, lastTime}
 use Rattle.rules.specs.Header.{Header}
-use Rattle.rules.specs.Record.{Event, Trade, trade, isTrade, tradeKind}
+use Rattle.rules.specs.Record.{buy, sell, Event, Trade, trade, isTrade, tradeKind}
 use Rattle.rules.specs.Journal.{History, count, tradeAt, beforeTrade}
 use Rattle.rules.specs.Prices.{standing, statusOf, upTo}
-use Rattle.rules.specs.Verdicts.{theBid, neither, buy, sell, through, sideThrough, isBlock}
+use Rattle.rules.specs.Verdicts.{theBid, neither, through, sideThrough, isBlock}
 use Rattle.rules.specs.Reasons.{hadSent, report}
 use Rattle.rules.specs.Due.{customerFirmSize, capped}
 use Rattle.rows.specs.Rows.{Reads, TradeOk}

@@ -1,15 +1,15 @@
 // Trades: what is kept of each, so that its later Satisfaction Orders are judged by the prices, customer contracts and statuses at the trade.
 ghost use mathlib.Core.Path.{_≡_};
-ghost use Prim.Native.Nat.{_+_, _*_, _<_, _≤_, min};
+ghost use Prim.Native.Nat.{_+_, _*_, _<_, _≤_};
 ghost use Rattle.quotes.specs.Tables.{Within};
 ghost use Rattle.orders.specs.Orders.{Headed};
 ghost use Rattle.excuses.specs.Excuses.{bit, Chains};
 ghost use Rattle.trades.specs.Trades.{priceOn, customersOn, excusingSide, caps, ExcuseIs, Snapped, Snaps, CapIs, Placed, TradesStep};
-use excuses::Excuse;
 use prices::Side;
 use quotes::Quote;
 use rows::Rec;
 use rows::Seat;
+use rows::Way;
 
 // What is kept of a trade.
 pub struct Kept;
@@ -68,9 +68,9 @@ fn excusing_side(side: u32) -> u32
     ensures { λ r. ⌜ r ≡ excusingSide side ⌝ }
 {
     if side == Side::BID {
-        Excuse::SELL
+        Way::SELL
     } else {
-        Excuse::BUY
+        Way::BUY
     }
 }
 
@@ -162,12 +162,6 @@ fn keep_snaps(
     }
 }
 
-pub fn least(a: u32, b: u32) -> u32
-    ensures { λ r. ⌜ r ≡ min a b ⌝ }
-{
-    if a <= b { a } else { b }
-}
-
 // Whether exchange x, traded through on a side or not, caps the due total: "larger than the customer firm size (the lesser of
 // home's automatic size and the other's)".
 fn caps_trade(x: usize, home: usize, side: u32, size: u32, ours: u32, theirs: u32) -> bool
@@ -179,7 +173,7 @@ fn caps_trade(x: usize, home: usize, side: u32, size: u32, ours: u32, theirs: u3
     if side == Side::NEITHER {
         return false;
     }
-    least(ours, theirs) < size
+    rows::lesser(ours, theirs) < size
 }
 
 // "If the trade is larger than the customer firm size .. with any exchange traded through, asked or not".

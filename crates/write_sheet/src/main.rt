@@ -1,19 +1,15 @@
 // Our own sheet of the journal on standard input, as bytes on standard output. A refusal goes to standard error: on standard output stands a whole sheet or nothing.
-use feed::Answer;
 use feed::Input;
 use feed::Room;
+use journal::Rewritten;
 use libc::STDERR_FILENO;
 
 fn write(journal: &[u8], n: usize, sheet: &mut [u8]) {
     if journal.len() < n {
         return;
     }
-    let answer = Answer::of(desk::hasurenta_sheet(&journal[..n], sheet));
-    if answer.refusal != 0 {
-        feed::refused(STDERR_FILENO, answer);
-        return;
-    }
-    feed::send(sheet, answer.low as usize);
+    let answered: Rewritten = answers::write_sheet(&journal[..n], sheet);
+    feed::answer(answered, sheet, STDERR_FILENO);
 }
 
 fn main() {

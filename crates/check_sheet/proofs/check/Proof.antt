@@ -10,17 +10,17 @@ returns c = search needs
 returns-2 : tie.Need-returns-2
 returns-2 c = search needs
 
-slice-aggregate-hasurenta-check : tie.Need-slice-aggregate-hasurenta-check
-slice-aggregate-hasurenta-check c = search (part-laws, needs)
+slice-aggregate-check-sheet : tie.Need-slice-aggregate-check-sheet
+slice-aggregate-check-sheet c = search (part-laws, needs)
 
-slice-aggregate-hasurenta-check-2 : tie.Need-slice-aggregate-hasurenta-check-2
-slice-aggregate-hasurenta-check-2 c = search (part-laws, needs)
+slice-aggregate-check-sheet-2 : tie.Need-slice-aggregate-check-sheet-2
+slice-aggregate-check-sheet-2 c = search (part-laws, needs)
 
-hasurenta-check-requires : tie.Need-hasurenta-check-requires
-hasurenta-check-requires c κs = search needs
+check-sheet-requires : tie.Need-check-sheet-requires
+check-sheet-requires c κs = search needs
 
-of-requires : tie.Need-of-requires
-of-requires c κs = search needs
+enum-known-no : tie.Need-enum-known-no
+enum-known-no c = search needs
 
 refused-requires : tie.Need-refused-requires
 refused-requires c κs = search needs
@@ -28,8 +28,11 @@ refused-requires c κs = search needs
 returns-3 : tie.Need-returns-3
 returns-3 c = search needs
 
+enum-told : tie.Need-enum-told
+enum-told c = search needs
+
 slice-aggregate-write-all : tie.Need-slice-aggregate-write-all
-slice-aggregate-write-all c = search needs
+slice-aggregate-write-all c = search (part-laws, needs)
 
 write-all-requires : tie.Need-write-all-requires
 write-all-requires c κs = search needs
@@ -43,12 +46,13 @@ check-spec =
     (tie.spec
     returns
     returns-2
-    slice-aggregate-hasurenta-check
-    slice-aggregate-hasurenta-check-2
-    hasurenta-check-requires
-    of-requires
+    slice-aggregate-check-sheet
+    slice-aggregate-check-sheet-2
+    check-sheet-requires
+    enum-known-no
     refused-requires
     returns-3
+    enum-told
     slice-aggregate-write-all
     write-all-requires
     returns-4)

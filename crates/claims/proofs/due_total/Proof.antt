@@ -4,7 +4,7 @@ use Rattle.claims.proofs.due_total.Statement.{statement}
 use Rattle.claims.proofs.due_total.Tie as tie
 use Rattle.claims.proofs.due_total.Reads as reads
 use Rattle.claims.proofs.due_total.Lts as lts
-use Rattle.trades.proofs.least.Reads as least-reads
+use Rattle.rows.proofs.lesser.Reads as lesser-reads
 
 add-claims : tie.Need-add-claims
 add-claims c = search (due-laws, needs)
@@ -33,20 +33,20 @@ mul-if1-2 c = search (due-laws, needs)
 element-copy-out-if1 : tie.Need-element-copy-out-if1
 element-copy-out-if1 c = search (due-laws, needs)
 
-mul-least : tie.Need-mul-least
-mul-least c = search (due-laws, needs)
+mul-lesser : tie.Need-mul-lesser
+mul-lesser c = search (due-laws, needs)
 
-add-least : tie.Need-add-least
-add-least c = search (due-laws, needs)
+add-lesser : tie.Need-add-lesser
+add-lesser c = search (due-laws, needs)
 
-mul-least-2 : tie.Need-mul-least-2
-mul-least-2 c = search (due-laws, needs)
+mul-lesser-2 : tie.Need-mul-lesser-2
+mul-lesser-2 c = search (due-laws, needs)
 
-element-copy-out-least : tie.Need-element-copy-out-least
-element-copy-out-least c = search (due-laws, needs)
+element-copy-out-lesser : tie.Need-element-copy-out-lesser
+element-copy-out-lesser c = search (due-laws, needs)
 
-least-requires : tie.Need-least-requires
-least-requires c κs = search (due-laws, needs)
+lesser-requires : tie.Need-lesser-requires
+lesser-requires c κs = search (due-laws, needs)
 
 returns : tie.Need-returns
 returns c = search (due-laws, needs)
@@ -67,10 +67,10 @@ due-total-spec =
     add-if1
     mul-if1-2
     element-copy-out-if1
-    mul-least
-    add-least
-    mul-least-2
-    element-copy-out-least
-    least-requires
+    mul-lesser
+    add-lesser
+    mul-lesser-2
+    element-copy-out-lesser
+    lesser-requires
     returns
     returns-2)

@@ -7,17 +7,14 @@ use Rattle.day.proofs.print.Tie as tie
 returns : tie.Need-returns
 returns c = search needs
 
-slice-aggregate-hasurenta-day : tie.Need-slice-aggregate-hasurenta-day
-slice-aggregate-hasurenta-day c = search (part-laws, needs)
+slice-aggregate-print-day : tie.Need-slice-aggregate-print-day
+slice-aggregate-print-day c = search (part-laws, needs)
 
-hasurenta-day-requires : tie.Need-hasurenta-day-requires
-hasurenta-day-requires c κs = search needs
+print-day-requires : tie.Need-print-day-requires
+print-day-requires c κs = search needs
 
-of-requires : tie.Need-of-requires
-of-requires c κs = search needs
-
-refused-requires : tie.Need-refused-requires
-refused-requires c κs = search needs
+answer-requires : tie.Need-answer-requires
+answer-requires c κs = search needs
 
 same-length : tie.Need-same-length
 same-length c = search needs
@@ -25,26 +22,13 @@ same-length c = search needs
 returns-2 : tie.Need-returns-2
 returns-2 c = search needs
 
-send-requires : tie.Need-send-requires
-send-requires c κs = search needs
-
-same-length-2 : tie.Need-same-length-2
-same-length-2 c = search needs
-
-returns-3 : tie.Need-returns-3
-returns-3 c = search needs
-
 pub print-spec : {M : Type 1} → statement M
 print-spec =
     tie.close
     (tie.spec
     returns
-    slice-aggregate-hasurenta-day
-    hasurenta-day-requires
-    of-requires
-    refused-requires
+    slice-aggregate-print-day
+    print-day-requires
+    answer-requires
     same-length
-    returns-2
-    send-requires
-    same-length-2
-    returns-3)
+    returns-2)

@@ -24,9 +24,6 @@ survey-requires c κs = search (clerk-laws, part-laws, needs)
 enum-known-no : tie.Need-enum-known-no
 enum-known-no c = search (clerk-laws, part-laws, needs)
 
-cast-t20 : tie.Need-cast-t20
-cast-t20 c = search (clerk-laws, part-laws, needs)
-
 refused-requires : tie.Need-refused-requires
 refused-requires c κs = search (clerk-laws, part-laws, needs)
 
@@ -51,7 +48,6 @@ explain-spec =
     slice-aggregate-survey-2
     survey-requires
     enum-known-no
-    cast-t20
     refused-requires
     enum-known-trades
     orders-requires

@@ -4,13 +4,13 @@ use Rattle.reasons.proofs.claim_of.Statement.{statement}
 use Rattle.reasons.proofs.claim_of.Tie as tie
 use Rattle.reasons.proofs.claim_of.Reads as reads
 use Rattle.reasons.proofs.claim_of.Lts as lts
-use Rattle.trades.proofs.least.Reads as least-reads
+use Rattle.rows.proofs.lesser.Reads as lesser-reads
 
-least-requires : tie.Need-least-requires
-least-requires c κs = search (word-laws, needs)
+lesser-requires : tie.Need-lesser-requires
+lesser-requires c κs = search (word-laws, needs)
 
-least-requires-2 : tie.Need-least-requires-2
-least-requires-2 c κs = search (word-laws, needs)
+lesser-requires-2 : tie.Need-lesser-requires-2
+lesser-requires-2 c κs = search (word-laws, needs)
 
 returns : tie.Need-returns
 returns c = search (word-laws, needs)
@@ -19,4 +19,4 @@ returns-2 : tie.Need-returns-2
 returns-2 c = search (word-laws, needs)
 
 pub claim-of-spec : {M : Type 1} → statement M
-claim-of-spec = tie.close (tie.spec least-requires least-requires-2 returns returns-2)
+claim-of-spec = tie.close (tie.spec lesser-requires lesser-requires-2 returns returns-2)

@@ -7,26 +7,26 @@ use Rattle.totals.proofs.total.Tie as tie
 returns : tie.Need-returns
 returns c = search needs
 
-slice-aggregate-hasurenta-totals : tie.Need-slice-aggregate-hasurenta-totals
-slice-aggregate-hasurenta-totals c = search (part-laws, needs)
+slice-aggregate-totals : tie.Need-slice-aggregate-totals
+slice-aggregate-totals c = search (part-laws, needs)
 
-slice-aggregate-hasurenta-totals-2 : tie.Need-slice-aggregate-hasurenta-totals-2
-slice-aggregate-hasurenta-totals-2 c = search needs
+totals-requires : tie.Need-totals-requires
+totals-requires c κs = search needs
 
-hasurenta-totals-requires : tie.Need-hasurenta-totals-requires
-hasurenta-totals-requires c κs = search needs
+enum-known-sent : tie.Need-enum-known-sent
+enum-known-sent c = search needs
 
-of-requires : tie.Need-of-requires
-of-requires c κs = search needs
+print-requires : tie.Need-print-requires
+print-requires c κs = search needs
+
+enum-known-no : tie.Need-enum-known-no
+enum-known-no c = search needs
 
 refused-requires : tie.Need-refused-requires
 refused-requires c κs = search needs
 
 returns-2 : tie.Need-returns-2
 returns-2 c = search needs
-
-print-requires : tie.Need-print-requires
-print-requires c κs = search needs
 
 returns-3 : tie.Need-returns-3
 returns-3 c = search needs
@@ -36,11 +36,11 @@ total-spec =
     tie.close
     (tie.spec
     returns
-    slice-aggregate-hasurenta-totals
-    slice-aggregate-hasurenta-totals-2
-    hasurenta-totals-requires
-    of-requires
+    slice-aggregate-totals
+    totals-requires
+    enum-known-sent
+    print-requires
+    enum-known-no
     refused-requires
     returns-2
-    print-requires
     returns-3)
