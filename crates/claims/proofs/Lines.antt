@@ -12,7 +12,7 @@ use Rattle.rules.specs.Basics.{if_then_else_, _==_, keep, sum}
 use Rattle.rules.specs.Header.{Header}
 use Rattle.rules.specs.Record.{Event, field, satisfaction, isSatisfaction, satisfactionKind}
 use Rattle.rules.specs.Journal.{History, Happened, count, nth}
-use Rattle.rules.specs.Reasons.{caseOf, senderSide, customers, reason}
+use Rattle.rules.specs.Reasons.{caseOf, customers, reason}
 use Rattle.rules.specs.Due.{Line, lineOf, linesOf, ofTrade, claimsOf, claim}
 use Rattle.rules.proofs.Tests.{byTest, keep-more}
 use Rattle.rules.proofs.Below.{one-more-below, same-below}
@@ -24,7 +24,7 @@ use Rattle.trades.specs.Trades.{Traded}
 use Rattle.reasons.specs.declared.Facts.{Facts}
 use Rattle.reasons.specs.Reasons.{reasonOf, claimOf}
 use Rattle.claims.specs.Facts.{factsOf}
-use Rattle.claims.specs.Lines.{lineAt, linesFrom, numberAt, manyOf, sumOf, tradeLines, priceThere, Told, Lined, Filing, Fileable, Filed, Placed, ClaimsStep}
+use Rattle.claims.specs.Lines.{lineAt, linesFrom, numberAt, manyOf, sumOf, tradeLines, Told, Lined, Filing, Fileable, Filed, Placed, ClaimsStep}
 use Rattle.claims.proofs.Facts.{reason-is, customers-are, side-is, there-is, claim-is}
 
 -- ---- one line more at the end
