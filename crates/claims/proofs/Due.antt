@@ -5,13 +5,12 @@ use mathlib.Core.List.{List, []}
 use Prim.Native.Nat.{ℕ, _+_, _*_, _<_, min}
 use native.Mathlib.Omega.{arith}
 use lib.ListN.{getD, replicate, length-replicate}
-use Rattle.rules.specs.Basics.{below, keep, sum}
+use Rattle.rules.specs.Basics.{below, keep, sum, bit}
 use Rattle.rules.specs.Header.{Header}
 use Rattle.rules.specs.Record.{trade}
 use Rattle.rules.specs.Journal.{History, count, tradeAt, beforeTrade}
 use Rattle.rules.specs.Due.{capped, linesOf, lines, ofTrade, claimsOf, dueOf, due}
 use Rattle.rules.proofs.Tests.{replicate-at}
-use Rattle.excuses.specs.Excuses.{bit}
 use Rattle.trades.specs.Trades.{tradeRow, Traded}
 use Rattle.claims.specs.Lines.{linesFrom, manyOf, sumOf, tradeLines, Lined, Filing, DueIs}
 

@@ -11,12 +11,12 @@ use Rattle.rules.specs.Basics.{_==_, _moreThan_}
 use Rattle.rules.specs.Record.{order, isSent}
 use Rattle.rules.specs.Journal.{History, count, sentAt}
 use Rattle.rules.specs.Reasons.{excuseWait, excuses, hadSent}
-use Rattle.rules.proofs.Tests.{byTest}
+use Rattle.rules.proofs.Tests.{byTest, bit-is}
 use Rattle.rules.proofs.Below.{any-below-none, any-below-found}
 use Rattle.quotes.specs.Tables.{Within, RowIs}
 use Rattle.excuses.specs.Excuses.{stands, Excused, chainOf, Link, Chains, excusing, Looking, HadSent}
 use Rattle.excuses.proofs.Words.{ended-not-excusing}
-use Rattle.excuses.proofs.Sweep.{in-chain, not-in-chain, bit-is}
+use Rattle.excuses.proofs.Sweep.{in-chain, not-in-chain}
 
 -- ---- what the row of an order says
 

@@ -7,7 +7,7 @@ use native.Mathlib.Omega.{arith}
 use lib.Dec.{eqb}
 use lib.ListN.{getD}
 use borrow.Author.Tests.{eq-eqb, ne-eqb, eqb-true, eqb-false}
-use Rattle.rules.specs.Basics.{_==_, any}
+use Rattle.rules.specs.Basics.{_==_, any, bit}
 use Rattle.rules.specs.Record.{Event, Order, field, order, isSent, quoteKind, sentKind, responseKind}
 use Rattle.rules.specs.Journal.{History, count, since, sentAt, answers}
 use Rattle.rules.specs.Prices.{quotes}
@@ -16,7 +16,7 @@ use Rattle.rules.proofs.Tests.{byTest}
 use Rattle.rules.proofs.Histories.{count-cons, count-skip, sentAt-older, sentAt-new, since-older, since-new}
 use Rattle.rows.specs.Rows.{Reads, word, Put}
 use Rattle.rows.specs.declared.Rec.{Rec}
-use Rattle.excuses.specs.Excuses.{bit, stands, backed, Excused}
+use Rattle.excuses.specs.Excuses.{stands, backed, Excused}
 
 -- ---- the excuse of one order
 

@@ -7,7 +7,7 @@ use native.Mathlib.Omega.{arith}
 use lib.Dec.{eqb}
 use lib.ListN.{getD, length, set, replicate, length-replicate}
 use borrow.Author.Tests.{eq-eqb, ne-eqb, eqb-true, eqb-false}
-use Rattle.rules.specs.Basics.{keep}
+use Rattle.rules.specs.Basics.{keep, bit}
 use Rattle.rules.specs.Record.{Event, field, order, isSent, quoteKind, sentKind, responseKind}
 use Rattle.rules.specs.Journal.{History, count, sentAt}
 use Rattle.rules.proofs.Tests.{byTest, replicate-at}
@@ -15,7 +15,7 @@ use Rattle.rows.specs.Rows.{Reads, word, Put, QuoteOk, OrderOk, RecOk}
 use Rattle.rows.specs.declared.Rec.{Rec}
 use Rattle.quotes.specs.Tables.{Within, RowIs}
 use Rattle.quotes.proofs.Quotes.{record-placed as quotes-placed}
-use Rattle.excuses.specs.Excuses.{bit, stands, Excused, chainOf, OrderRow, Chains, Placed, Filled, ExcusesStep}
+use Rattle.excuses.specs.Excuses.{stands, Excused, chainOf, OrderRow, Chains, Placed, Filled, ExcusesStep}
 use Rattle.excuses.proofs.Orders.{kind-not, stands-older, stands-kept, fill-ends, other-fill-ends-none, excused-after, excused-alone, excused-sent}
 use Rattle.excuses.proofs.Chains.{cleared-here, cleared-word, cleared-other, chains-cleared, chains-more, chains-none}
 

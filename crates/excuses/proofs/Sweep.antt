@@ -8,14 +8,14 @@ use lib.Dec.{eqb, ltb}
 use lib.ListN.{getD, length, set}
 use lib.Seq.{getD-set-same}
 use borrow.Author.Tests.{eq-eqb, ne-eqb, eqb-true, eqb-false, ltb-true, ltb-false}
-use Rattle.rules.specs.Basics.{_==_}
+use Rattle.rules.specs.Basics.{_==_, bit}
 use Rattle.rules.specs.Record.{Event, order, isSent, quoteKind}
 use Rattle.rules.specs.Journal.{History, count, sentAt}
-use Rattle.rules.proofs.Tests.{byTest, and-left}
+use Rattle.rules.proofs.Tests.{byTest, bit-is, and-left}
 use Rattle.rows.specs.Rows.{Reads, word}
 use Rattle.rows.specs.declared.Rec.{Rec}
 use Rattle.quotes.specs.Tables.{Within, RowIs}
-use Rattle.excuses.specs.Excuses.{bit, stands, Excused, chainOf, Link, OrderRow, Chains, backed, outlived, flagAfter, Sweeping, ExcusesStep}
+use Rattle.excuses.specs.Excuses.{stands, Excused, chainOf, Link, OrderRow, Chains, backed, outlived, flagAfter, Sweeping, ExcusesStep}
 use Rattle.excuses.proofs.Orders.{kind-not, stands-older, stands-kept, quote-ends, other-quote-ends-none, excused-after}
 use Rattle.excuses.proofs.Chains.{chain-same, cleared-here, cleared-word, cleared-other, cleared-chain, chains-cleared, chains-without}
 
@@ -29,10 +29,6 @@ in-chain t m x s o w e = (omega (arith, o .from-one, o .to-eight, o .series, w .
 pub not-in-chain : (t : List ℕ) (m x s : ℕ) → (chainOf t m ≡ (x - 1) * 32 + s → ⊥) → getD t (m * 8 + 1) 0 ≡ x → getD t (m * 8 + 2) 0 ≡ s → ⊥
 unfolding chainOf
 not-in-chain t m x s ne p q = ne (rw (p, q))
-
-pub bit-is : (b : Bool) → (bit b == 1) ≡ b
-bit-is true = refl
-bit-is false = refl
 
 -- ---- the flags that a quote leaves are those of the history with it
 

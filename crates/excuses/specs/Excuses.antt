@@ -5,7 +5,7 @@ use mathlib.Core.Bool.{Bool, false, not, _&&_, _||_}
 use mathlib.Core.List.{List, _∷_}
 use Prim.Native.Nat.{ℕ, _+_, _-_, _*_, _<_, _≤_}
 use lib.ListN.{getD, length}
-use Rattle.rules.specs.Basics.{if_then_else_, _==_, _moreThan_, any}
+use Rattle.rules.specs.Basics.{if_then_else_, _==_, _moreThan_, any, bit}
 use Rattle.rules.specs.Limits.{mostSentOrders}
 use Rattle.rules.specs.Record.{buy, Event, field, order, isSent, sentKind, responseKind, quoteKind}
 use Rattle.rules.specs.Journal.{History, count, since, sentAt}
@@ -14,9 +14,6 @@ use Rattle.rules.specs.Verdicts.{worse}
 use Rattle.rules.specs.Reasons.{endsExcuse, excuseWait, hadSent}
 use Rattle.rows.specs.Rows.{Reads, word, QuoteOk, OrderOk}
 use Rattle.rows.specs.declared.Rec.{Rec}
-
-abbrev pub bit : Bool → ℕ
-bit b = if b then 1 else 0
 
 -- nothing since sent order n has ended its excuse
 unfoldable pub stands : ℕ → History → Bool

@@ -9,6 +9,7 @@ use mir.Syntax.{w32}
 use lib.Dec.{eqb}
 use lib.ListN.{length}
 use borrow.Author.Tests.{eq-eqb, ne-eqb, not-true, not-false}
+use Rattle.rules.specs.Basics.{bit}
 use Rattle.rules.specs.Header.{Header}
 use Rattle.rules.specs.Record as paper
 use Rattle.rules.specs.Record.{Event, field, quoteKind, tradeKind, sentKind, receivedKind}
@@ -21,7 +22,7 @@ use Rattle.orders.specs.Orders.{Headed, Heads, asOrder, OrderIs, sentAs, dutyAs
 use Rattle.home.specs.Home.{homesOf, QuoteIs, SameQuote, againstAs, AgainstIs}
 use Rattle.through.proofs.TradeVerdicts.{trade-is, series-low}
 use Rattle.through.specs.Trades.{TradeIs, CountIs, BlockIs}
-use Rattle.market.specs.Judged.{judgedAs, bitOf, QuoteSays, SentSays, DutySays, JudgedIs}
+use Rattle.market.specs.Judged.{judgedAs, QuoteSays, SentSays, DutySays, JudgedIs}
 use Rattle.market.specs.declared.Judged.{Judged}
 use Rattle.market.specs.declared.Judged.the-variants.{Nothing, Q, S, R, T}
 use Rattle.home.specs.declared.HomeQuote.{HomeQuote}
@@ -75,14 +76,6 @@ module _ (v : Duty) (x : ℕ) where
   pub says-least : v ≡ AtLeast x → DutySays v (R 2 x 0)
   unfolding judgedAs dutyAs
   says-least e = record { so = λ n. rw e }
-
-pub bit-one : (b : Bool) → b ≡ true → 1 ≡ bitOf b
-unfolding bitOf
-bit-one b e = rw e
-
-pub bit-none : (b : Bool) → b ≡ false → 0 ≡ bitOf b
-unfolding bitOf
-bit-none b e = rw e
 
 -- ---- what the code took out of a record is what the paper names
 
@@ -160,9 +153,9 @@ module _ (q st : List ℕ) (n home : ℕ) (sizes : List ℕ) (sent trades : ℕ)
           }
 
       module _ (n6 : r .kind ≡ receivedKind → ⊥) where
-        pub judged-trade : r .kind ≡ tradeKind → (c y : ℕ) (t : Trade) → CountIs q n home t c → (b : Bool) → BlockIs q n t b → y ≡ bitOf b → TradeIs r t
+        pub judged-trade : r .kind ≡ tradeKind → (c y : ℕ) (t : Trade) → CountIs q n home t c → (b : Bool) → BlockIs q n t b → y ≡ bit b → TradeIs r t
             → JudgedIs q st n home sizes sent trades r (T trades c y)
-        unfolding judged judgedAs bitOf
+        unfolding judged judgedAs
         judged-trade k c y t counted b block ey is =
             record {
               so = λ h e past hd reads held hs es et.
@@ -213,4 +206,4 @@ module _ (n home : ℕ) (r : Rec) (ok : RecOk n home r) where
     pub received-series : r .kind ≡ receivedKind → o .series < 32
     received-series k = order-series (ok .received k)
 
-pub ruleset judge-laws = (says-clear, says-locked, says-crossed, says-fine, says-not-shown, says-not-best, says-none, says-whole, says-least, bit-one, bit-none, judged-away, judged-home, judged-sent, judged-received, judged-trade, judged-other, quote-series, count-fits, trade-series, sent-within, received-from, received-to, received-series)
+pub ruleset judge-laws = (says-clear, says-locked, says-crossed, says-fine, says-not-shown, says-not-best, says-none, says-whole, says-least, judged-away, judged-home, judged-sent, judged-received, judged-trade, judged-other, quote-series, count-fits, trade-series, sent-within, received-from, received-to, received-series)

@@ -1,6 +1,5 @@
 -- What is printed of a record: the code's answer as lines of the printed day, and what is promised of every history that the tables hold.
 use mathlib.Core.Path.{_≡_}
-use mathlib.Core.Bool.{Bool}
 use mathlib.Core.List.{List, []}
 use Prim.Native.Nat.{ℕ}
 use lib.ListN.{length}
@@ -8,7 +7,7 @@ use Rattle.rules.specs.Header.{Header}
 use Rattle.rules.specs.Record.{Event, isSent, isTrade}
 use Rattle.rules.specs.Journal.{History, count}
 use Rattle.rules.specs.Verdicts.{verdict}
-use Rattle.rules.specs.PrintedDay.{Printed, oneLine, bit, judged}
+use Rattle.rules.specs.PrintedDay.{Printed, oneLine, judged}
 use Rattle.rows.specs.Rows.{Reads}
 use Rattle.rows.specs.declared.Rec.{Rec}
 use Rattle.quotes.specs.Tables.{Quoted, Statuses}
@@ -27,9 +26,6 @@ judgedAs n (Q a b c) = oneLine n "Q" (verdict a b c)
 judgedAs n (S a b c) = oneLine n "S" (verdict a b c)
 judgedAs n (R a b c) = oneLine n "R" (verdict a b c)
 judgedAs n (T a b c) = oneLine n "T" (verdict a b c)
-
-unfoldable pub bitOf : Bool → ℕ
-bitOf b = bit b
 
 -- ---- a verdict as a line
 

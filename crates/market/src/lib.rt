@@ -1,10 +1,9 @@
 // What is printed of a record: the verdict on a home quote, an order or a trade, as a letter and three numbers.
-ghost use mathlib.Core.Path.{_≡_};
 ghost use Prim.Native.Nat.{_≤_};
 ghost use Rattle.rules.specs.Limits.{mostTrades, mostSentOrders};
 ghost use Rattle.rows.specs.Rows.{RecOk};
 ghost use Rattle.orders.specs.Orders.{Headed};
-ghost use Rattle.market.specs.Judged.{bitOf, QuoteSays, SentSays, DutySays, JudgedIs};
+ghost use Rattle.market.specs.Judged.{QuoteSays, SentSays, DutySays, JudgedIs};
 use home::Against;
 use orders::Duty;
 use orders::Sent;
@@ -49,12 +48,6 @@ fn duty_says(v: Duty) -> Judged
     }
 }
 
-fn bit(b: bool) -> u32
-    ensures { λ r. ⌜ r ≡ bitOf b ⌝ }
-{
-    if b { 1 } else { 0 }
-}
-
 // "Away quotes, statuses and responses print nothing."; what is printed of a Satisfaction Order is our own sheet's.
 // `sent` and `trades` count the sent orders and the trades before this record.
 pub fn judge(
@@ -88,7 +81,7 @@ pub fn judge(
         let t = through::trade_of(r);
         let number = trades as u32;
         let count = through::count_through(q, n, home, t) as u32;
-        return Judged::T(number, count, bit(through::is_block(q, n, t)));
+        return Judged::T(number, count, rows::bit_of(through::is_block(q, n, t)));
     }
     Judged::Nothing
 }

@@ -12,15 +12,10 @@ use Rattle.rules.specs.Prices.{standing, statusOf}
 use Rattle.rules.specs.Verdicts.{neither, theBid, through, sideThrough, isBlock}
 use Rattle.rules.specs.Reasons.{Case, senderQuote, senderSide, customers, hadSent, report, timeToClaim, lateBy, required, reason}
 use Rattle.rules.specs.Due.{claim}
-use Rattle.excuses.specs.Excuses.{bit}
+use Rattle.rules.proofs.Tests.{bit-is}
 use Rattle.trades.specs.Trades.{priceOn, customersOn, excusingSide, excuseAt, snap, snapAt, tradeRow}
 use Rattle.reasons.specs.declared.Facts.{Facts}
 use Rattle.reasons.specs.Reasons.{laterThan, lateAt, requiredOf, reasonOf, claimOf}
-
--- a test kept as a word
-bit-says : (b : Bool) → (bit b == 1) ≡ b
-bit-says true = refl
-bit-says false = refl
 
 -- an exchange that was not traded through is not asked for its excuse
 unasked : (outside had : Bool) (rest : List Row)
@@ -62,7 +57,7 @@ module _ (h : Header) (k : Case) (y : ℕ) (es : (satisfaction (k .claim)) .send
       let t = trade (k .trade) in
       let side : ℕ = through (standing (y + 1) (t .series) (k .before)) (t .price) in
       let had : Bool = hadSent (y + 1) (t .series) (if side == theBid then sell else buy) (k .trade .time) (k .before) in
-      rw (es, bit-says (if side == neither then false else had), bit-says (isBlock h (k .before) t), Bool·not-not (t .initiator == 0))
+      rw (es, bit-is (if side == neither then false else had), bit-is (isBlock h (k .before) t), Bool·not-not (t .initiator == 0))
       (unasked (side == neither) had _)
 
   pub customers-words : customers k ≡ getD (snapAt (k .trade) (k .before) y) 2 0

@@ -8,12 +8,21 @@ use lib.ListN.{length, getD, replicate}
 use native.Mathlib.Omega.{arith}
 use lib.Dec.{ltb, leb, eqb}
 use borrow.Author.Tests.{ltb-true, ltb-false, leb-true, leb-false, eqb-true, eqb-false, not-true, lt-ltb, le-ltb, le-leb, lt-leb, eq-eqb, ne-eqb}
-use Rattle.rules.specs.Basics.{if_then_else_, all, any, keep}
+use Rattle.rules.specs.Basics.{if_then_else_, bit, all, any, keep}
 
 -- by cases on a test, with the equation
 pub byTest {ℓ} : {X : Type ℓ} (b : Bool) → (b ≡ true → X) → (b ≡ false → X) → X
 byTest true f g = f refl
 byTest false f g = g refl
+
+-- a test as a number, asked again
+pub bit-is : (b : Bool) → eqb (bit b) 1 ≡ b
+bit-is true = refl
+bit-is false = refl
+
+pub bit-zero : (b : Bool) → eqb (bit b) 0 ≡ not b
+bit-zero true = refl
+bit-zero false = refl
 
 pub and-left : (a b : Bool) → (a && b) ≡ true → a ≡ true
 and-left true b e = refl

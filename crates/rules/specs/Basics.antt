@@ -9,6 +9,10 @@ abbrev pub if_then_else_ {ℓ} : {A : Type ℓ} → Bool → A → A → A
 if_then_else_ true a b = a
 if_then_else_ false a b = b
 
+-- 1 or 0
+abbrev pub bit : Bool → ℕ
+bit b = if b then 1 else 0
+
 -- ---- tests on numbers
 
 infix 50 _==_ _atMost_ _atLeast_ _lessThan_ _moreThan_

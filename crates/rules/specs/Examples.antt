@@ -4,12 +4,12 @@ use Prim.Native.Nat.{ℕ, _+_, _-_}
 use Prim.Native.String.{String}
 use mathlib.Core.Bool.{_&&_}
 use mathlib.Core.List.{List, [], _∷_, _++_, flatMap}
-use Rattle.rules.specs.Basics.{Answer, refused, ok, all, sum, _==_}
+use Rattle.rules.specs.Basics.{Answer, refused, ok, all, sum, _==_, bit}
 use Rattle.rules.specs.Number.{Read, number, bytesOf, bytesOfAll, startOf}
 use Rattle.rules.specs.Header.{Header, headerBytes}
 use Rattle.rules.specs.Journal.{Journal, journal}
 use Rattle.rules.specs.Due.{lines, ofTrade, due, shareRule}
-use Rattle.rules.specs.PrintedDay.{printedDay, ascii, bit}
+use Rattle.rules.specs.PrintedDay.{printedDay, ascii}
 use Rattle.rules.specs.Only.{onlyFills, filledSo}
 
 pub record Example : Type 0 where

@@ -2,10 +2,10 @@
 use Prim.Native.Nat.{ℕ, zero, suc, _+_, _/_, _%_}
 use Prim.Native.Char.{code}
 use Prim.Native.String.{String, [] as []ₛ, _∷_ as _∷ₛ_}
-use mathlib.Core.Bool.{Bool, _&&_}
+use mathlib.Core.Bool.{_&&_}
 use mathlib.Core.List.{List, [], _∷_, _++_, flatMap}
 use lib.ListN.{length, getD}
-use Rattle.rules.specs.Basics.{if_then_else_, _==_, _lessThan_, Answer, refused, ok}
+use Rattle.rules.specs.Basics.{if_then_else_, _==_, _lessThan_, Answer, refused, ok, bit}
 use Rattle.rules.specs.Header.{Header}
 use Rattle.rules.specs.Record.{Event, quote, trade, order, isQuote, isTrade, isSent, isReceived, isSatisfaction}
 use Rattle.rules.specs.Journal.{History, Journal, journal, count}
@@ -54,9 +54,6 @@ abbrev pub oneLine : ℕ → String → Verdict → List Printed
 oneLine n what v = record { event = n; what = what; says = v } ∷ []
 
 -- ---- what is printed of an event, after the history before it. "Event counts records from 0."
-
-abbrev pub bit : Bool → ℕ
-bit b = if b then 1 else 0
 
 -- Q, S, R, T. "Away quotes, statuses and responses print nothing."
 unfoldable pub judged : Header → History → Event → List Printed

@@ -7,13 +7,14 @@ use native.Mathlib.Omega.{arith}
 use lib.Dec.{eqb}
 use lib.ListN.{getD}
 use borrow.Author.Tests.{eq-eqb, ne-eqb, eqb-true, eqb-false}
+use Rattle.rules.specs.Basics.{bit}
 use Rattle.rules.specs.Prices.{standing}
 use Rattle.rules.specs.Verdicts.{through}
 use Rattle.rules.proofs.Tests.{byTest}
 use Rattle.rows.specs.Rows.{Put}
 use Rattle.quotes.specs.Tables.{RowIs, Within}
 use Rattle.through.specs.Trades.{throughOf}
-use Rattle.excuses.specs.Excuses.{bit, HadSent}
+use Rattle.excuses.specs.Excuses.{HadSent}
 use Rattle.trades.specs.Trades.{priceOn, customersOn, excusingSide, excuseAt, snap, ExcuseIs, Snapped, Snaps, Snapping}
 
 -- ---- the excuse

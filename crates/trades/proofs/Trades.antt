@@ -7,7 +7,7 @@ use native.Mathlib.Omega.{arith}
 use lib.Dec.{eqb}
 use lib.ListN.{getD, length}
 use borrow.Author.Tests.{eq-eqb, ne-eqb, eqb-true, eqb-false}
-use Rattle.rules.specs.Basics.{keep}
+use Rattle.rules.specs.Basics.{keep, bit}
 use Rattle.rules.specs.Header.{Header}
 use Rattle.rules.specs.Record.{Event, trade, isTrade, tradeKind}
 use Rattle.rules.specs.Journal.{History, count, tradeAt, beforeTrade}
@@ -18,7 +18,6 @@ use Rattle.rules.proofs.Histories.{count-cons, count-skip, tradeAt-older, trade
 use Rattle.rows.specs.Rows.{Reads, word, Put, RecOk}
 use Rattle.rows.specs.declared.Rec.{Rec}
 use Rattle.orders.specs.Orders.{Headed}
-use Rattle.excuses.specs.Excuses.{bit}
 use Rattle.trades.specs.Trades.{snap, snapAt, tradeRow, Traded, Snaps, SidesAre, CapIs, Placed, TradesStep}
 
 -- ---- a record of another kind

@@ -5,7 +5,7 @@ use mathlib.Core.Bool.{Bool, false, not, _&&_}
 use mathlib.Core.List.{List, [], _∷_}
 use Prim.Native.Nat.{ℕ, _+_, _*_, _<_, _≤_, min}
 use lib.ListN.{getD, length}
-use Rattle.rules.specs.Basics.{if_then_else_, _==_, _moreThan_, any, keep}
+use Rattle.rules.specs.Basics.{if_then_else_, _==_, _moreThan_, any, keep, bit}
 use Rattle.rules.specs.Limits.{mostTrades, lastTime}
 use Rattle.rules.specs.Header.{Header}
 use Rattle.rules.specs.Record.{buy, sell, Event, Trade, trade, isTrade, tradeKind}
@@ -18,7 +18,7 @@ use Rattle.rows.specs.Rows.{Reads, TradeOk}
 use Rattle.rows.specs.declared.Rec.{Rec}
 use Rattle.quotes.specs.Tables.{Quoted, Statuses}
 use Rattle.orders.specs.Orders.{Heads}
-use Rattle.excuses.specs.Excuses.{bit, Excused}
+use Rattle.excuses.specs.Excuses.{Excused}
 
 -- ---- what is kept of exchange y + 1 at a trade in series s, at this price and time: the side traded through, the price and the
 -- customer contracts there, its status, whether home is excused

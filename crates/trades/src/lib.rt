@@ -3,7 +3,7 @@ ghost use mathlib.Core.Path.{_≡_};
 ghost use Prim.Native.Nat.{_+_, _*_, _<_, _≤_};
 ghost use Rattle.quotes.specs.Tables.{Within};
 ghost use Rattle.orders.specs.Orders.{Headed};
-ghost use Rattle.excuses.specs.Excuses.{bit, Chains};
+ghost use Rattle.excuses.specs.Excuses.{Chains};
 ghost use Rattle.trades.specs.Trades.{priceOn, customersOn, excusingSide, caps, ExcuseIs, Snapped, Snaps, CapIs, Placed, TradesStep};
 use prices::Side;
 use quotes::Quote;
@@ -74,12 +74,6 @@ fn excusing_side(side: u32) -> u32
     }
 }
 
-pub fn bit_of(b: bool) -> u32
-    ensures { λ r. ⌜ r ≡ bit b ⌝ }
-{
-    if b { 1 } else { 0 }
-}
-
 // Whether home is excused at exchange x, asked only where the trade went through it.
 fn excuse(
     t: &[u32; 2048],
@@ -97,7 +91,7 @@ fn excuse(
     if side == Side::NEITHER {
         return 0;
     }
-    bit_of(excuses::had_sent(t, ch, orders, x, s, excusing_side(side), time))
+    rows::bit_of(excuses::had_sent(t, ch, orders, x, s, excusing_side(side), time))
 }
 
 // What is kept of exchange y + 1 at a trade.
@@ -229,8 +223,8 @@ pub fn keep_trade(
     let time = r.time;
     let s = rows::index(row[0]);
     keep_snaps(sn, n, seat.exchanges, q, st, t, ch, orders, s, row[1], time);
-    let capped = bit_of(is_capped(sn, n, seat.home, seat.exchanges, sizes, row[2]));
-    let found = bit_of(block);
+    let capped = rows::bit_of(is_capped(sn, n, seat.home, seat.exchanges, sizes, row[2]));
+    let found = rows::bit_of(block);
     let report = time + row[6];
     let kept = [row[1], row[2], found, row[4], row[5], report, capped, 0];
     rows::put_row(tr, n, kept);

@@ -64,8 +64,8 @@ cast-count c = search (judge-laws, needs)
 is-block-requires : tie.Need-is-block-requires
 is-block-requires c κs = search (judge-laws, needs)
 
-bit-requires : tie.Need-bit-requires
-bit-requires c κs = search (judge-laws, needs)
+bit-of-requires : tie.Need-bit-of-requires
+bit-of-requires c κs = search (judge-laws, needs)
 
 returns-5 : tie.Need-returns-5
 returns-5 c = search (judge-laws, needs)
@@ -97,6 +97,6 @@ judge-spec =
     count-through-requires
     cast-count
     is-block-requires
-    bit-requires
+    bit-of-requires
     returns-5
     returns-6)

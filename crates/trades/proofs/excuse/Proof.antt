@@ -5,7 +5,7 @@ use Rattle.trades.proofs.excuse.Tie as tie
 use Rattle.trades.proofs.excuse.Reads as reads
 use Rattle.trades.proofs.excuse.Lts as lts
 use Rattle.excuses.proofs.had_sent.Reads as had-sent-reads
-use Rattle.trades.proofs.bit_of.Reads as bit-of-reads
+use Rattle.rows.proofs.bit_of.Reads as bit-of-reads
 use Rattle.trades.proofs.excusing_side.Reads as excusing-side-reads
 
 returns : tie.Need-returns

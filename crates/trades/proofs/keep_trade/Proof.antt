@@ -6,7 +6,7 @@ use Rattle.trades.proofs.keep_trade.Reads as reads
 use Rattle.trades.proofs.keep_trade.Lts as lts
 use Rattle.rows.proofs.index.Reads as index-reads
 use Rattle.rows.proofs.put_row.Reads as put-row-reads
-use Rattle.trades.proofs.bit_of.Reads as bit-of-reads
+use Rattle.rows.proofs.bit_of.Reads as bit-of-reads
 use Rattle.trades.proofs.is_capped.Reads as is-capped-reads
 use Rattle.trades.proofs.keep_snaps.Reads as keep-snaps-reads
 
