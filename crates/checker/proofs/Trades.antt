@@ -20,6 +20,8 @@ use Rattle.rules.proofs.Lines.{lines-known}
 use Rattle.claims.specs.Lines.{lineAt, linesFrom, manyOf, tradeLines, Gathered, DueIs}
 use Rattle.claims.specs.Books.{Books}
 use Rattle.claims.proofs.TradeLines.{trade-findable, gathered-lines}
+use Rattle.rules.proofs.Giving.{Within}
+use Rattle.rules.proofs.OwnSheet.{linesIn}
 use Rattle.fairness.specs.Lines as fairness
 use Rattle.fairness.proofs.Lines.{known-line-sound}
 use Rattle.said.specs.declared.Checked.{Checked}
@@ -74,7 +76,7 @@ unfolding sharesOf ofTrade
 shares-with said m ls =
     ap (keep (λ (a : Share). a .line .trade == m)) (as-shares said ls) ∙ keep-map (λ (a : Share). a .line .trade == m) (filledAs said) ls
 
-lines-filled : (said : List ℕ) (ls : List Line) → fairness.linesIn (map (filledAs said) ls) ≡ ls
+lines-filled : (said : List ℕ) (ls : List Line) → linesIn (map (filledAs said) ls) ≡ ls
 lines-filled said ls = map-map _ (filledAs said) ls ∙ map-id ls
 
 fills-filled : (said : List ℕ) (ls : List Line) → fillsOf (map (filledAs said) ls) ≡ map (fillOn said) ls
@@ -89,7 +91,7 @@ module _ (j : Journal) (tr cl : List ℕ) (trades n : ℕ) (b : Books j tr cl tr
     trade-shares : sharesOf m (besides cl said n) ≡ map (filledAs said) (ofTrade m (lines j))
     trade-shares = ap (sharesOf m) besides-with ∙ shares-with said m (lines j)
 
-    within : checkLines (besides cl said n) ≡ ok tt → fairness.WithinClaims (sharesOf m (besides cl said n))
+    within : checkLines (besides cl said n) ≡ ok tt → Within (sharesOf m (besides cl said n))
     unfolding sharesOf
     within e a mem =
         map-all (λ (x : Share). x .filled ≤ x .line .claim) asShare (besides cl said n) (lines-within (besides cl said n) e) a

@@ -11,11 +11,11 @@ use Rattle.rules.specs.Basics.{below}
 use Rattle.rules.specs.Header.{Header}
 use Rattle.rules.specs.Record.{Event, field, isSatisfaction, satisfactionKind}
 use Rattle.rules.specs.Journal.{History, count}
-use Rattle.rules.specs.Due.{Line, lineOf, linesOf, ofTrade, claimsOf}
+use Rattle.rules.specs.Due.{Line, lineOf, linesOf, ofTrade, claimsOf, customersOf}
 use Rattle.rules.proofs.Below.{as-many-below}
 use Rattle.rules.proofs.Journals.{Arrived}
 use Rattle.rules.proofs.TradeLines.{trade-has-at-most-a-line-for-each-exchange}
-use Rattle.claims.specs.Lines.{lineAt, numberAt, manyOf, tradeLines, Lined, Filing, Findable, ManyIs, NumberIs, contractsOf, Gathering, Gathered}
+use Rattle.claims.specs.Lines.{lineAt, numberAt, manyOf, tradeLines, Lined, Filing, Findable, ManyIs, NumberIs, Gathering, Gathered}
 use Rattle.claims.proofs.Lines.{lines-new, of-trade-more, in-its-trade, trade-lines-more}
 
 pub trade-findable : (cl : List ℕ) (n m : ℕ) → Filing cl n → m < 128 → Findable cl m
@@ -62,7 +62,7 @@ module _ (cl : List ℕ) (m k : ℕ) (mk : ManyIs cl m k) (claim customers : Lis
         record {
           few = mk .few;
           claims = rw (← e) (g .claims ∙ ap (λ (j : ℕ). claimsOf (tradeLines cl m j)) e2);
-          contracts = rw (← e) (g .contracts ∙ ap (λ (j : ℕ). contractsOf (tradeLines cl m j)) e2);
+          contracts = rw (← e) (g .contracts ∙ ap (λ (j : ℕ). customersOf (tradeLines cl m j)) e2);
           many = mk .is;
           claim-words = g .claim-words;
           customer-words = g .customer-words;
@@ -78,7 +78,7 @@ trade-lines-long cl m k = as-many-below (λ i. lineAt cl (numberAt cl m i)) k
 pub record LinesGathered (h : Header) (past : History) (m : ℕ) (claim customers : List ℕ) (k : ℕ) : Type 0 where
   pub many : k ≡ length (ofTrade m (linesOf h past))
   pub claims : take k claim ≡ claimsOf (ofTrade m (linesOf h past))
-  pub contracts : take k customers ≡ contractsOf (ofTrade m (linesOf h past))
+  pub contracts : take k customers ≡ customersOf (ofTrade m (linesOf h past))
 
 pub gathered-lines : (h : Header) (past : History) (cl : List ℕ) (n m : ℕ) (claim customers : List ℕ) (k : ℕ) → m < 128 → Lined h past cl n
     → Gathered cl m claim customers k → LinesGathered h past m claim customers k
@@ -86,7 +86,7 @@ gathered-lines h past cl n m claim customers k hm held g =
     record {
       many = g .many ∙ sym (trade-lines-long cl m (manyOf cl m)) ∙ ap length (held .by-trade m hm);
       claims = g .claims ∙ ap claimsOf (held .by-trade m hm);
-      contracts = g .contracts ∙ ap contractsOf (held .by-trade m hm);
+      contracts = g .contracts ∙ ap customersOf (held .by-trade m hm);
     }
 
 -- a Satisfaction Order of an accepted journal finds room under its trade

@@ -11,7 +11,7 @@ use Rattle.rules.specs.Header.{Header}
 use Rattle.rules.specs.Record.{Event, satisfaction, isSatisfaction, satisfactionKind}
 use Rattle.rules.specs.Journal.{History, Happened, count, nth}
 use Rattle.rules.specs.Reasons.{Case, caseOf, senderQuote, senderSide}
-use Rattle.rules.specs.Due.{Line, linesOf, ofTrade, claimsOf, due}
+use Rattle.rules.specs.Due.{Line, linesOf, ofTrade, claimsOf, customersOf, due}
 use Rattle.rows.specs.Rows.{Reads, word, SatisfactionOk}
 use Rattle.rows.specs.declared.Rec.{Rec}
 use Rattle.orders.specs.Orders.{Heads}
@@ -128,13 +128,10 @@ pub record NumberIs (cl : List ℕ) (m i r : ℕ) : Type 0 where
   pub is : r ≡ numberAt cl m i
   pub low : r < mostSatisfactionOrders
 
-abbrev pub contractsOf : List Line → List ℕ
-contractsOf ls = map (λ (l : Line). l .customers) ls
-
 -- the first i of them
 pub record Gathering (cl : List ℕ) (m k i : ℕ) (claim customers : List ℕ) : Type 0 where
   pub claims : take i claim ≡ claimsOf (tradeLines cl m i)
-  pub contracts : take i customers ≡ contractsOf (tradeLines cl m i)
+  pub contracts : take i customers ≡ customersOf (tradeLines cl m i)
   pub low : i ≤ k
   pub claim-words : length claim ≡ 8
   pub customer-words : length customers ≡ 8
@@ -142,7 +139,7 @@ pub record Gathering (cl : List ℕ) (m k i : ℕ) (claim customers : List ℕ) 
 pub record Gathered (cl : List ℕ) (m : ℕ) (claim customers : List ℕ) (k : ℕ) : Type 0 where
   pub few : k ≤ 8
   pub claims : take k claim ≡ claimsOf (tradeLines cl m (manyOf cl m))
-  pub contracts : take k customers ≡ contractsOf (tradeLines cl m (manyOf cl m))
+  pub contracts : take k customers ≡ customersOf (tradeLines cl m (manyOf cl m))
   pub many : k ≡ manyOf cl m
   pub claim-words : length claim ≡ 8
   pub customer-words : length customers ≡ 8

@@ -7,7 +7,9 @@ use lib.ListN.{getD, length, length-map, List·getD-map}
 use lib.Seq.{getD-take}
 use Rattle.rules.specs.Due.{Line, Share}
 use Rattle.rules.proofs.Tests.{on-cons}
-use Rattle.fairness.specs.Lines.{Sound, linesIn, Gathered, at, Served, shareAt, noLine, noShare}
+use Rattle.rules.specs.GoodSheet.{noLine}
+use Rattle.rules.proofs.OwnSheet.{linesIn}
+use Rattle.fairness.specs.Lines.{Sound, Gathered, at, Served, shareAt, noShare}
 
 -- ---- a list of shares by its places
 

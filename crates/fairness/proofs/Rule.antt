@@ -12,9 +12,9 @@ use borrow.Author.Tests.{lt-ltb, le-ltb, leb-true, leb-false, not-true, not-fals
 use Rattle.rules.specs.Basics.{_==_, all, keep}
 use Rattle.rules.specs.Due.{Share, fair, shareRule}
 use Rattle.rules.proofs.Tests.{byTest, and-left, and-right}
-use Rattle.rules.proofs.Giving.{Fair, fair-says, says-fair}
+use Rattle.rules.proofs.Giving.{Within, Fair, fair-says, says-fair}
 use Rattle.rules.proofs.OwnSheet.{fair-shares-keep-the-rule}
-use Rattle.fairness.specs.Lines.{Gathered, WithinClaims, RuleAnswered, at, shareAt}
+use Rattle.fairness.specs.Lines.{Gathered, RuleAnswered, at, shareAt}
 use Rattle.fairness.specs.Pairs.{Breaks, FairSoFar}
 use Rattle.rows.proofs.Rows.{words-product-fits}
 use Rattle.fairness.proofs.Places.{member-at, by-places, gathered-many, fill-at, claim-at, customers-at, sound-at}
@@ -55,7 +55,7 @@ rule-says-fair ss e i j hi hj ri rj =
     let ours : Share → Bool = λ a. a .line .reason == 0 in
     kept-all-at (fair (shareAt ss i)) ours ss (kept-all-at (λ a. all (fair a) (keep ours ss)) ours ss e i hi ri) j hj rj
 
-module _ (claim customers fill : List ℕ) (k : ℕ) (ss : List Share) (g : Gathered ss claim customers fill k) (w : WithinClaims ss) where
+module _ (claim customers fill : List ℕ) (k : ℕ) (ss : List Share) (g : Gathered ss claim customers fill k) (w : Within ss) where
   many : k ≡ length ss
   many = gathered-many ss claim customers fill k g
 

@@ -1,17 +1,17 @@
 -- One trade's lines as the first k words of small arrays, and the share rule among them.
 use mathlib.Core.Path.{_≡_}
 use mathlib.Core.Bool.{Bool, false}
-use mathlib.Core.List.{List, map, List·Memᴰ}
+use mathlib.Core.List.{List, List·Memᴰ}
 use Prim.Native.Nat.{ℕ, _<_, _≤_}
 use lib.ListN.{getD, length, take}
 use Rattle.rules.specs.Basics.{_==_}
-use Rattle.rules.specs.Due.{Line, claimsOf, Share, shareRule}
+use Rattle.rules.specs.Due.{Line, claimsOf, customersOf, Share, shareRule}
 use Rattle.rules.specs.SheetCheck.{fillsOf}
+use Rattle.rules.specs.GoodSheet.{noLine}
+use Rattle.rules.proofs.Giving.{Within}
+use Rattle.rules.proofs.OwnSheet.{linesIn}
 
 -- ---- what the arrays hold
-
-abbrev pub customersOf : List Line → List ℕ
-customersOf ls = map (λ (l : Line). l .customers) ls
 
 -- what is so of every line of an accepted journal
 pub record Sound (l : Line) : Type 0 where
@@ -28,25 +28,15 @@ pub record Lined (ls : List Line) (claim customers : List ℕ) (k : ℕ) : Type 
   pub claim-words : length claim ≡ 8
   pub customer-words : length customers ≡ 8
 
-abbrev pub linesIn : List Share → List Line
-linesIn ss = map (λ (a : Share). a .line) ss
-
 -- these lines, filled somehow
 pub record Gathered (ss : List Share) (claim customers fill : List ℕ) (k : ℕ) : Type 0 where
   pub lined : Lined (linesIn ss) claim customers k
   pub fills : take k fill ≡ fillsOf ss
 
--- no line is filled above its claim: what the check has seen of every line (24) before it looks at a trade
-abbrev pub WithinClaims : List Share → Type 0
-WithinClaims ss = (a : Share) → List·Memᴰ a ss → a .filled ≤ a .line .claim
-
 -- ---- a line by its place
 
 abbrev pub at : List ℕ → ℕ → ℕ
 at l i = getD l i 0
-
-abbrev pub noLine : Line
-noLine = record { number = 0; trade = 0; size = 0; reason = 0; customers = 0; claim = 0 }
 
 abbrev pub noShare : Share
 noShare = record { line = noLine; filled = 0 }
@@ -57,7 +47,7 @@ shareAt ss i = getD ss i noShare
 abbrev pub Served : List ℕ → List ℕ → ℕ → Type 0
 Served claim customers k = (i : ℕ) → i < k → at claim i ≤ at customers i
 
--- ---- what is promised
+-- ---- what is promised, where no line is filled above its claim: the check has seen that of every line (24) before it looks at a trade
 
 pub record RuleAnswered (claim customers fill : List ℕ) (k : ℕ) (kept : Bool) : Type 0 where
-  pub is : (ss : List Share) → Gathered ss claim customers fill k → WithinClaims ss → kept ≡ shareRule ss
+  pub is : (ss : List Share) → Gathered ss claim customers fill k → Within ss → kept ≡ shareRule ss

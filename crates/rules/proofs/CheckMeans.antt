@@ -15,19 +15,13 @@ use Rattle.rules.specs.Journal.{Journal, journal, count}
 use Rattle.rules.specs.Due.{Line, lines, due, Share, fair, shareRule}
 use Rattle.rules.specs.OwnSheet.{SheetLine, lineBytes, sheetBytes, ownLines, ownSheet}
 use Rattle.rules.specs.SheetCheck.{renumbered, sheetLines, Beside, beside, checkLine, checkLines, asShare, sharesOf, fillsOf, checkTrade, checkTrades, checkSheet}
-use Rattle.rules.specs.GoodSheet.{lineAt, saidAt, Storable, fillsOfTrade, GoodSheet}
+use Rattle.rules.specs.GoodSheet.{noLine, nothingSaid, lineAt, saidAt, Storable, fillsOfTrade, GoodSheet}
 use Rattle.rules.proofs.Tests.{byTest, and-left, and-right, on-cons, all-at, all-make, keep-sub, keep-holds, by-place, by-member}
 use Rattle.rules.proofs.Answers.{went, met, ok-is, refused-not-ok}
 use Rattle.rules.proofs.Numbers.{read-numbers-again, bytes-append, written-numbers-are-bytes}
 use Rattle.rules.proofs.Lines.{LineKnown, journal-lines-known}
 use Rattle.rules.proofs.Giving.{Fair, fair-says, says-fair}
 use Rattle.rules.proofs.OwnSheet.{threeOf, Stores, written-sheet-reads-back, own-sheet-accepted}
-
-abbrev noLine : Line
-noLine = record { number = 0; trade = 0; size = 0; reason = 0; customers = 0; claim = 0 }
-
-abbrev nothingSaid : SheetLine
-nothingSaid = record { reason = 0; filled = 0; cancelled = 0 }
 
 -- ---- 20: the bytes are the lines' bytes
 

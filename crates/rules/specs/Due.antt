@@ -52,6 +52,9 @@ ofTrade n ls = keep (λ (l : Line). l .trade == n) ls
 abbrev pub claimsOf : List Line → List ℕ
 claimsOf ls = map (λ (l : Line). l .claim) ls
 
+abbrev pub customersOf : List Line → List ℕ
+customersOf ls = map (λ (l : Line). l .customers) ls
+
 -- ---- the due total of a trade
 
 -- "the customer firm size (the lesser of home's automatic size and the other's)"

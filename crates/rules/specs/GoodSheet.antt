@@ -15,11 +15,17 @@ use Rattle.rules.specs.Due.{Line, lines, due}
 use Rattle.rules.specs.OwnSheet.{SheetLine, sheetBytes}
 
 -- the Satisfaction Order and the sheet's line numbered i
+abbrev pub noLine : Line
+noLine = record { number = 0; trade = 0; size = 0; reason = 0; customers = 0; claim = 0 }
+
 abbrev pub lineAt : List Line → ℕ → Line
-lineAt ls i = getD ls i (record { number = 0; trade = 0; size = 0; reason = 0; customers = 0; claim = 0 })
+lineAt ls i = getD ls i noLine
+
+abbrev pub nothingSaid : SheetLine
+nothingSaid = record { reason = 0; filled = 0; cancelled = 0 }
 
 abbrev pub saidAt : List SheetLine → ℕ → SheetLine
-saidAt ss i = getD ss i (record { reason = 0; filled = 0; cancelled = 0 })
+saidAt ss i = getD ss i nothingSaid
 
 -- a line whose three numbers can be stored
 abbrev pub Storable : SheetLine → Type 0

@@ -14,8 +14,8 @@ use Rattle.rules.specs.OwnSheet.{noLater, isNext, atFirst, giveOne, give, empty
 use Rattle.rules.specs.SheetCheck.{fillsOf}
 use Rattle.rules.proofs.Tests.{byTest, and-right, and-make, when-true, when-make, all-at, all-make}
 use Rattle.rules.proofs.Giving.{total, claims, Within}
-use Rattle.rules.proofs.OwnSheet.{rounds-give-as-many, atFirst-lines, give-lines, empty-lines, claims-lines, give-given}
-use Rattle.fairness.specs.Lines.{linesIn, shareAt}
+use Rattle.rules.proofs.OwnSheet.{linesIn, rounds-give-as-many, atFirst-lines, give-lines, empty-lines, claims-lines, give-given}
+use Rattle.fairness.specs.Lines.{shareAt}
 use Rattle.fairness.proofs.Places.{member-at, by-places}
 
 -- ---- the first line that a test picks
