@@ -1,18 +1,16 @@
--- Laws of the functions that are given numbers: words copied out of them, and what the entries answer as one number.
-use mathlib.Core.Path.{_≡_, refl, sym, ap, subst, _∙_}
-use mathlib.Core.List.{List, [], _∷_, _++_}
-use Prim.Native.Nat.{ℕ, zero, suc, _+_, _%_, _<_, _≤_}
-use native.Mathlib.Omega.{arith}
+-- Laws of the functions that are given numbers: what the entries answer as one number.
+use mathlib.Core.Path.{_≡_, refl, ap, subst, _∙_}
+use mathlib.Core.List.{List, [], _∷_}
+use Prim.Native.Nat.{ℕ, _%_, _<_, _≤_}
 use native.Mathlib.Nat.{zero-add}
-use lib.ListN.{length, getD, set, replicate}
+use lib.ListN.{length, getD}
 use borrow.Author.Tests.{le-leb, lt-leb, eq-eqb, ne-eqb}
 use Rattle.rules.specs.Basics.{below, refused, ok, _>>=_}
 use Rattle.rules.specs.Refusals.{outputTooShort}
 use Rattle.rules.specs.Writing.{noPlace, into, lentAfter, readRecord}
 use Rattle.rules.proofs.Answers.{demand-met, demand-missed}
-use Rattle.rules.proofs.Below.{one-more-below, as-many-below}
 use Rattle.numbers.specs.Rows.{pad}
-use Rattle.numbers.proofs.Reading.{pad-none, pad-more, pad-long}
+use Rattle.numbers.proofs.Reading.{pad-long}
 use Rattle.text.specs.Lent.{asAnswer}
 use Rattle.text.specs.declared.Written.{Written}
 use Rattle.text.specs.declared.Written.the-variants.{To, Refused}
@@ -23,54 +21,10 @@ use Rattle.record.specs.Taken.{recordedAs, entryOf}
 use Rattle.record.specs.declared.Taken.{Taken}
 use Rattle.alone.specs.Alone.{ReadAlone, WritesRecord}
 use Rattle.journal.specs.Entries.{Copied}
+use Rattle.given.specs.Given.{wordsAt, headFrom}
 use Rattle.desk.specs.Exports.{refusalUnit, codeOf, Gives}
-use Rattle.desk.specs.Records.{wrongCount, wordsAt, headFrom, writeHeaderFrom, writeRecordFrom, readRecordFrom}
+use Rattle.desk.specs.Records.{wrongCount, writeHeaderFrom, writeRecordFrom, readRecordFrom}
 use Rattle.desk.proofs.Exports.{gives-refusal}
-
--- ---- words copied out of the numbers
-
-one-word-more : (at i : ℕ) (ns : List ℕ) → wordsAt at (i + 1) ns ≡ wordsAt at i ns ++ (getD ns (at + i) 0 ∷ [])
-unfolding wordsAt
-one-word-more at i ns = one-more-below (λ k. getD ns (at + k) 0) i
-
-words-length : (at k : ℕ) (ns : List ℕ) → length (wordsAt at k ns) ≡ k
-unfolding wordsAt
-words-length at k ns = as-many-below (λ i. getD ns (at + i) 0) k
-
-pad-all : (k : ℕ) (ns : List ℕ) → length ns ≡ k → pad k 0 ns ≡ ns
-unfolding pad
-pad-all zero [] e = refl
-pad-all zero (n ∷ ns) e = absurd (omega arith)
-pad-all (suc k) [] e = absurd (omega arith)
-pad-all (suc k) (n ∷ ns) e = ap (λ l. n ∷ l) (pad-all k ns (omega arith))
-
--- so many words of `width` are copied
-pub record Gathering (at width : ℕ) (ns row : List ℕ) (i : ℕ) : Type 0 where
-  pub is : row ≡ pad width 0 (wordsAt at i ns)
-  pub low : i ≤ width
-
-module _ (at width : ℕ) (ns : List ℕ) where
-  pub gathering-none : Gathering at width ns (replicate width 0) 0
-  gathering-none = record { is = unfold wordsAt below in sym (pad-none width 0); low = omega arith }
-
-  module _ (row : List ℕ) (i : ℕ) (g : Gathering at width ns row i) where
-    pub gathering-more : i < width → Gathering at width ns (set row i (getD ns (at + i) 0)) (i + 1)
-    gathering-more h =
-        record {
-          is = rw (g .is) (pad-more width 0 (wordsAt at i ns) i (getD ns (at + i) 0) (words-length at i ns) h ∙ ap (pad width 0) (sym (one-word-more at i ns)));
-          low = omega arith;
-        }
-
-    pub gathered : width ≤ i → row ≡ wordsAt at width ns
-    gathered h =
-        let e : i ≡ width = omega (arith, g .low) in
-        g .is ∙ ap (λ (k : ℕ). pad width 0 (wordsAt at k ns)) e ∙ pad-all width (wordsAt at width ns) (words-length at width ns)
-
-pub ruleset gather-laws = (gathering-none, gathering-more, gathered)
-
-pub head-is : (ns sizes : List ℕ) → sizes ≡ wordsAt 3 16 ns
-    → _≡_ {A = Head} (record { home = getD ns 0 0; exchanges = getD ns 1 0; close = getD ns 2 0; sizes = sizes }) (headFrom ns)
-head-is ns sizes e = rw e
 
 -- ---- the code of a writer's answer
 

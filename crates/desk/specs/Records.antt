@@ -1,27 +1,19 @@
 -- The functions that are given a header or a record as numbers: how many they take, and what each number is.
-use mathlib.Core.List.{List, _∷_, map}
-use Prim.Native.Nat.{ℕ, _+_, _%_}
+use mathlib.Core.List.{List, _∷_}
+use Prim.Native.Nat.{ℕ, _%_}
 use lib.ListN.{length, getD}
-use Rattle.rules.specs.Basics.{_==_, below, Answer, _>>=_, demand}
+use Rattle.rules.specs.Basics.{_==_, Answer, _>>=_, demand}
 use Rattle.rules.specs.Record.{Recorded}
 use Rattle.rules.specs.Writing.{noPlace, into, writeHeader, writeRecord, readRecord}
 use Rattle.numbers.specs.Rows.{pad}
 use Rattle.header.specs.Head.{asHeader}
-use Rattle.header.specs.declared.Head.{Head}
 use Rattle.alone.specs.Alone.{givenAs}
+use Rattle.given.specs.Given.{wordsAt, headFrom}
 use Rattle.desk.specs.Exports.{refusalUnit}
 
 -- the refusal of more or fewer numbers than a function takes; none of the paper's numbers
 abbrev pub wrongCount : ℕ
 wrongCount = 98
-
--- k words from a place on
-unfoldable pub wordsAt : ℕ → ℕ → List ℕ → List ℕ
-wordsAt at k ns = map (λ i. getD ns (at + i) 0) (below k)
-
--- the first 19 numbers: home, N, close, 16 sizes
-abbrev pub headFrom : List ℕ → Head
-headFrom ns = record { home = getD ns 0 0; exchanges = getD ns 1 0; close = getD ns 2 0; sizes = wordsAt 3 16 ns }
 
 unfoldable pub writeHeaderFrom : List ℕ → ℕ → Answer (List ℕ)
 writeHeaderFrom ns room = do

@@ -1,7 +1,7 @@
 // The desk's functions for other languages: slices in, lent memory, one number out. include/hasurenta.h declares them.
 ghost use mathlib.Core.Path.{_≡_};
 ghost use mathlib.Core.List.{[], _∷_};
-ghost use Prim.Native.Nat.{_%_, _≤_};
+ghost use Prim.Native.Nat.{_%_};
 ghost use lib.ListN.{length};
 ghost use Rattle.rules.specs.Basics.{refused};
 ghost use Rattle.rules.specs.Journal.{journal};
@@ -9,10 +9,9 @@ ghost use Rattle.rules.specs.SheetCheck.{checkSheet};
 ghost use Rattle.rules.specs.Writing.{into, rewriteJournal, writeSheet, writeDay};
 ghost use Rattle.text.specs.Lent.{asAnswer};
 ghost use Rattle.header.specs.Head.{firstWords};
-ghost use Rattle.journal.specs.Entries.{Copied};
 ghost use Rattle.desk.specs.Exports.{refusalUnit, codeOf, unwritten, Gives, writeTotals, rewrittenAs};
-ghost use Rattle.desk.specs.Records.{wordsAt, headFrom, writeHeaderFrom, writeRecordFrom, readRecordFrom};
-use header::Head;
+ghost use Rattle.desk.specs.Records.{writeHeaderFrom, writeRecordFrom, readRecordFrom};
+use given::Given;
 use journal::DayTotals;
 use journal::Rewritten;
 use journal::Verdict;
@@ -110,56 +109,16 @@ pub extern "C" fn hasurenta_rewrite(j: &[u8], out: &mut [u8]) -> u64
 pub struct Numbers;
 
 impl Numbers {
-    // home, N, close, 16 sizes
-    pub const HEADER: usize = 19;
+    pub const HEADER: usize = Given::HEADER;
 
     // and the time so far
-    pub const READING: usize = 20;
+    pub const READING: usize = Numbers::HEADER + 1;
 
-    // and kind, milliseconds, 8 fields
-    pub const RECORD: usize = 30;
+    // and the record's own
+    pub const RECORD: usize = Numbers::READING + Given::RECORD;
 
     // the refusal of more or fewer
     pub const WRONG_COUNT: u32 = 98;
-}
-
-fn sizes_of(numbers: &[u32]) -> [u32; 16]
-    requires { ⌜ 19 ≤ length (now numbers) ⌝ }
-    ensures { λ r. ⌜ r ≡ wordsAt 3 16 (now (numbers .entry)) ⌝ }
-{
-    let mut sizes = [0u32; 16];
-    let mut i: usize = 0;
-    while i < 16 {
-        sizes[i] = numbers[3 + i];
-        i += 1;
-    }
-    sizes
-}
-
-fn head_of(numbers: &[u32]) -> Head
-    requires { ⌜ 19 ≤ length (now numbers) ⌝ }
-    ensures { λ r. ⌜ r ≡ headFrom (now (numbers .entry)) ⌝ }
-{
-    let sizes = sizes_of(numbers);
-    Head {
-        home: numbers[0],
-        exchanges: numbers[1],
-        close: numbers[2],
-        sizes,
-    }
-}
-
-fn fields_of(numbers: &[u32]) -> [u32; 8]
-    requires { ⌜ 30 ≤ length (now numbers) ⌝ }
-    ensures { λ r. ⌜ r ≡ wordsAt 22 8 (now (numbers .entry)) ⌝ }
-{
-    let mut fields = [0u32; 8];
-    let mut i: usize = 0;
-    while i < 8 {
-        fields[i] = numbers[22 + i];
-        i += 1;
-    }
-    fields
 }
 
 fn written(w: Written) -> u64
@@ -178,7 +137,7 @@ pub extern "C" fn hasurenta_write_header(numbers: &[u32], out: &mut [u8]) -> u64
     if numbers.len() != Numbers::HEADER {
         return refusal(Numbers::WRONG_COUNT, 0);
     }
-    let head = head_of(numbers);
+    let head = given::head_of(numbers);
     written(header::write_header(out, head))
 }
 
@@ -189,20 +148,9 @@ pub extern "C" fn hasurenta_write_record(numbers: &[u32], out: &mut [u8]) -> u64
     if numbers.len() != Numbers::RECORD {
         return refusal(Numbers::WRONG_COUNT, 0);
     }
-    let head = head_of(numbers);
-    let fields = fields_of(numbers);
+    let head = given::head_of(numbers);
+    let fields = given::fields_at(numbers, 22);
     written(alone::write_record(out, head, numbers[19], numbers[20], numbers[21], fields))
-}
-
-fn copy(words: &[u32], out: &mut [u32])
-    requires { ⌜ length (now words) ≤ length (now out) ⌝ }
-    ensures { λ _. ⌜ Copied (now (words .entry)) (now (out .entry)) (now (out .exit)) ⌝ }
-{
-    let mut i: usize = 0;
-    while i < words.len() {
-        out[i] = words[i];
-        i += 1;
-    }
 }
 
 // These words, or 9 and nothing.
@@ -212,7 +160,7 @@ fn put_words(words: &[u32], out: &mut [u32]) -> u64
     if out.len() < words.len() {
         return refusal(Refusal::OUTPUT_TOO_SHORT, 0);
     }
-    copy(words, out);
+    given::copy(words, out);
     words.len() as u64 % Code::UNIT
 }
 
@@ -241,7 +189,7 @@ pub extern "C" fn hasurenta_read_record(numbers: &[u32], bytes: &[u8], out: &mut
     if numbers.len() != Numbers::READING {
         return refusal(Numbers::WRONG_COUNT, 0);
     }
-    let head = head_of(numbers);
+    let head = given::head_of(numbers);
     let taken = alone::read_record(bytes, head, numbers[19]);
     if taken.no != 0 {
         return refusal(taken.no, taken.place);

@@ -5,7 +5,7 @@ use Rattle.desk.proofs.hasurenta_read_record.Tie as tie
 use Rattle.desk.proofs.hasurenta_read_record.Reads as reads
 use Rattle.desk.proofs.hasurenta_read_record.Lts as lts
 use Rattle.alone.proofs.read_record.Reads as read-record-reads
-use Rattle.desk.proofs.head_of.Reads as head-of-reads
+use Rattle.given.proofs.head_of.Reads as head-of-reads
 use Rattle.desk.proofs.put_words.Reads as put-words-reads
 use Rattle.desk.proofs.refusal.Reads as refusal-reads
 use Rattle.desk.proofs.words_of.Reads as words-of-reads

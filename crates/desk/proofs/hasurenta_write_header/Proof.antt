@@ -4,7 +4,7 @@ use Rattle.desk.proofs.hasurenta_write_header.Statement.{statement}
 use Rattle.desk.proofs.hasurenta_write_header.Tie as tie
 use Rattle.desk.proofs.hasurenta_write_header.Reads as reads
 use Rattle.desk.proofs.hasurenta_write_header.Lts as lts
-use Rattle.desk.proofs.head_of.Reads as head-of-reads
+use Rattle.given.proofs.head_of.Reads as head-of-reads
 use Rattle.desk.proofs.refusal.Reads as refusal-reads
 use Rattle.desk.proofs.written.Reads as written-reads
 use Rattle.header.proofs.write_header.Reads as write-header-reads

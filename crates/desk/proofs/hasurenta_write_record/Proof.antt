@@ -5,8 +5,8 @@ use Rattle.desk.proofs.hasurenta_write_record.Tie as tie
 use Rattle.desk.proofs.hasurenta_write_record.Reads as reads
 use Rattle.desk.proofs.hasurenta_write_record.Lts as lts
 use Rattle.alone.proofs.write_record.Reads as write-record-reads
-use Rattle.desk.proofs.fields_of.Reads as fields-of-reads
-use Rattle.desk.proofs.head_of.Reads as head-of-reads
+use Rattle.given.proofs.fields_at.Reads as fields-at-reads
+use Rattle.given.proofs.head_of.Reads as head-of-reads
 use Rattle.desk.proofs.refusal.Reads as refusal-reads
 use Rattle.desk.proofs.written.Reads as written-reads
 
@@ -19,8 +19,8 @@ returns c = search (writer-laws, needs)
 head-of-requires : tie.Need-head-of-requires
 head-of-requires c κs = search needs
 
-fields-of-requires : tie.Need-fields-of-requires
-fields-of-requires c κs = search needs
+fields-at-requires : tie.Need-fields-at-requires
+fields-at-requires c κs = search needs
 
 shared-slice-read-write-record : tie.Need-shared-slice-read-write-record
 shared-slice-read-write-record c = search needs
@@ -50,7 +50,7 @@ hasurenta-write-record-spec =
     refusal-requires
     returns
     head-of-requires
-    fields-of-requires
+    fields-at-requires
     shared-slice-read-write-record
     shared-slice-read-write-record-2
     shared-slice-read-write-record-3

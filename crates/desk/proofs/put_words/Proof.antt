@@ -4,7 +4,7 @@ use Rattle.desk.proofs.put_words.Statement.{statement}
 use Rattle.desk.proofs.put_words.Tie as tie
 use Rattle.desk.proofs.put_words.Reads as reads
 use Rattle.desk.proofs.put_words.Lts as lts
-use Rattle.desk.proofs.copy.Reads as copy-reads
+use Rattle.given.proofs.copy.Reads as copy-reads
 use Rattle.desk.proofs.refusal.Reads as refusal-reads
 
 refusal-requires : tie.Need-refusal-requires

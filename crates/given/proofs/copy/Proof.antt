@@ -3,10 +3,10 @@ use lib.ListN.{length}
 use Rattle.journal.specs.Entries.{Copying}
 use Rattle.journal.proofs.Entries.{copy-laws}
 use borrow.Author.Needs.{needs}
-use Rattle.desk.proofs.copy.Statement.{statement}
-use Rattle.desk.proofs.copy.Tie as tie
-use Rattle.desk.proofs.copy.Reads as reads
-use Rattle.desk.proofs.copy.Lts as lts
+use Rattle.given.proofs.copy.Statement.{statement}
+use Rattle.given.proofs.copy.Tie as tie
+use Rattle.given.proofs.copy.Reads as reads
+use Rattle.given.proofs.copy.Lts as lts
 
 abbrev Inv-loop : tie.InvT-loop
 Inv-loop words out₀ i₀ out i = Copying words out₀ out i
