@@ -20,7 +20,8 @@ use Rattle.header.proofs.Ranges.{first-words-are}
 use Rattle.record.specs.Taken.{recordedAs, entryOf}
 use Rattle.record.specs.declared.Taken.{Taken}
 use Rattle.alone.specs.Alone.{ReadAlone, WritesRecord}
-use Rattle.journal.specs.Entries.{Copied}
+use Rattle.rows.specs.Rows.{Copied}
+use Rattle.rows.proofs.Copies.{copied-front}
 use Rattle.given.specs.Given.{wordsAt, headFrom}
 use Rattle.desk.specs.Exports.{refusalUnit, codeOf, Gives}
 use Rattle.desk.specs.Records.{wrongCount, writeHeaderFrom, writeRecordFrom, readRecordFrom}
@@ -70,12 +71,12 @@ module _ (words out : List ℕ) where
   unfolding into _>>=_
   words-short h r g = gives-refusal _ outputTooShort 0 (rw (demand-missed _ outputTooShort noPlace (lt-leb (length words) (length out) h))) out r g
 
-  pub words-put : length words ≤ length out → (after : List ℕ) → Copied words out after
+  pub words-put : length words ≤ length out → (after : List ℕ) → Copied words (length words) out after
       → Gives (into (length out) words) out (length words % refusalUnit) after
   unfolding into _>>=_ lentAfter
   words-put h after c =
       let e : into (length out) words ≡ ok words = rw (demand-met _ outputTooShort noPlace (le-leb (length words) (length out) h)) in
-      record { code = rw e; lent = c .front ∙ rw e }
+      record { code = rw e; lent = copied-front words out after c ∙ rw e }
 
 pub ruleset words-laws = (words-short, words-put)
 

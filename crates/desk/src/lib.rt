@@ -160,7 +160,7 @@ fn put_words(words: &[u32], out: &mut [u32]) -> u64
     if out.len() < words.len() {
         return refusal(Refusal::OUTPUT_TOO_SHORT, 0);
     }
-    given::copy(words, out);
+    rows::copy_first(words, words.len(), out);
     words.len() as u64 % Code::UNIT
 }
 

@@ -2,7 +2,6 @@
 ghost use mathlib.Core.Path.{_≡_};
 ghost use Prim.Native.Nat.{_+_, _≤_};
 ghost use lib.ListN.{length};
-ghost use Rattle.journal.specs.Entries.{Copied};
 ghost use Rattle.given.specs.Given.{wordsAt, headFrom};
 use header::Head;
 
@@ -17,23 +16,12 @@ impl Given {
     pub const RECORD: usize = 10;
 }
 
-pub fn copy(words: &[u32], out: &mut [u32])
-    requires { ⌜ length (now words) ≤ length (now out) ⌝ }
-    ensures { λ _. ⌜ Copied (now (words .entry)) (now (out .entry)) (now (out .exit)) ⌝ }
-{
-    let mut i: usize = 0;
-    while i < words.len() {
-        out[i] = words[i];
-        i += 1;
-    }
-}
-
 pub fn head_of(numbers: &[u32]) -> Head
     requires { ⌜ 19 ≤ length (now numbers) ⌝ }
     ensures { λ r. ⌜ r ≡ headFrom (now (numbers .entry)) ⌝ }
 {
     let mut sizes = [0u32; 16];
-    copy(&numbers[3..Given::HEADER], &mut sizes);
+    rows::copy_first(&numbers[3..], 16, &mut sizes);
     Head {
         home: numbers[0],
         exchanges: numbers[1],
@@ -47,6 +35,6 @@ pub fn fields_at(numbers: &[u32], at: usize) -> [u32; 8]
     ensures { λ r. ⌜ r ≡ wordsAt at 8 (now (numbers .entry)) ⌝ }
 {
     let mut fields = [0u32; 8];
-    copy(&numbers[at..at + 8], &mut fields);
+    rows::copy_first(&numbers[at..], 8, &mut fields);
     fields
 }

@@ -12,8 +12,9 @@ use Rattle.rules.specs.OwnSheet.{giveOne, give, empty}
 use Rattle.rules.specs.SheetCheck.{fillsOf}
 use Rattle.rules.proofs.OwnSheet.{empty-lines}
 use Rattle.sharing.specs.declared.Turn.{Turn}
+use Rattle.rows.specs.Rows.{Copied}
 use Rattle.fairness.specs.Lines.{Lined, Gathered, at, shareAt}
-use Rattle.sharing.specs.Turns.{Least, Nobody, Found, nobody, least, Scanning, NextTurn, Given, Giving, Copied, SharedOut}
+use Rattle.sharing.specs.Turns.{Least, Nobody, Found, nobody, least, Scanning, NextTurn, Given, Giving, SharedOut}
 use Rattle.sharing.proofs.Turns.{scanning-none, scanning-more}
 use Rattle.fairness.proofs.Places.{gathered-many, fill-at, claim-at, customers-at, gathered-served}
 use Rattle.sharing.proofs.Rounds.{round-gives, round-over, rounds-over, round-keeps-lines, all-claims-due-fills-every-claim}

@@ -3,24 +3,13 @@ use mathlib.Core.Path.{_≡_}
 use mathlib.Core.Bool.{_&&_}
 use mathlib.Core.List.{List, map}
 use Prim.Native.Nat.{ℕ, _+_, _*_, _<_, _≤_}
-use lib.ListN.{length, take, drop, set}
+use lib.ListN.{take, drop, set}
 use Rattle.rules.specs.Basics.{if_then_else_, _lessThan_}
 use Rattle.rules.specs.Due.{Line, Share}
 use Rattle.rules.specs.OwnSheet.{give, giveOne, empty}
 use Rattle.rules.specs.SheetCheck.{fillsOf}
 use Rattle.sharing.specs.declared.Turn.{Turn}
 use Rattle.fairness.specs.Lines.{Lined, Gathered, at, Served}
-
--- ---- the first words copied
-
-pub record Copied (from : List ℕ) (k : ℕ) (before after : List ℕ) : Type 0 where
-  pub first : take k after ≡ take k from
-  pub others : drop k after ≡ drop k before
-
-pub record Copying (from : List ℕ) (k : ℕ) (before after : List ℕ) (i : ℕ) : Type 0 where
-  pub copied : Copied from i before after
-  pub long : length after ≡ length before
-  pub low : i ≤ k
 
 -- ---- turns
 

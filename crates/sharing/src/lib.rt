@@ -1,8 +1,7 @@
 // How what is due on a trade is shared out among its lines, which are the first k words of eight, as in `fairness`.
 ghost use mathlib.Core.Path.{_≡_};
 ghost use Prim.Native.Nat.{_≤_};
-ghost use lib.ListN.{length};
-ghost use Rattle.sharing.specs.Turns.{Copied, soonerOf, NextTurn, Given, SharedOut};
+ghost use Rattle.sharing.specs.Turns.{soonerOf, NextTurn, Given, SharedOut};
 
 // The line that the next contract goes to: its number, its fill with that contract, its customer contracts.
 struct Turn {
@@ -49,18 +48,6 @@ fn next_turn(claim: &[u32; 8], customers: &[u32; 8], fill: &[u32; 8], k: usize) 
     turn
 }
 
-// The first k words of another array; the others stay.
-fn copy_first(from: &[u32], k: usize, to: &mut [u32])
-    requires { ⌜ (k ≤ length (now from)) × (k ≤ length (now to)) ⌝ }
-    ensures { λ _. ⌜ Copied (now (from .entry)) k (now (to .entry)) (now (to .exit)) ⌝ }
-{
-    let mut i: usize = 0;
-    while i < k {
-        to[i] = from[i];
-        i += 1;
-    }
-}
-
 // "one contract at a time, each to the unfilled line with the least (fill + 1) per customer contract": so many more, or until every line is filled.
 fn give_in_turn(
     claim: &[u32; 8],
@@ -90,10 +77,10 @@ pub fn share_out(claim: &[u32; 8], customers: &[u32; 8], k: usize, due: u64, fil
     ensures { λ _. ⌜ SharedOut (now (claim .entry)) (now (customers .entry)) k due (now (fill .entry)) (now (fill .exit)) ⌝ }
 {
     if due == fairness::total(claim, k) {
-        copy_first(claim, k, fill);
+        rows::copy_first(claim, k, fill);
         return;
     }
     let none = [0u32; 8];
-    copy_first(&none, k, fill);
+    rows::copy_first(&none, k, fill);
     give_in_turn(claim, customers, k, due, fill);
 }
