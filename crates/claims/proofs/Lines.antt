@@ -131,27 +131,6 @@ line-is u n why contracts due sender side there r h e past rd here a b c =
       c,
     )
 
-pub facts-read : (tr sn : List ℕ) (m y home close asked now : ℕ)
-    → (record {
-      side = getD sn ((m * 8 + y) * 8 + 0) 0;
-      there = getD sn ((m * 8 + y) * 8 + 1) 0;
-      customers = getD sn ((m * 8 + y) * 8 + 2) 0;
-      status = getD sn ((m * 8 + y) * 8 + 3) 0;
-      excused = getD sn ((m * 8 + y) * 8 + 4) 0;
-      home = getD sn ((m * 8 + (home - 1)) * 8 + 3) 0;
-      price = getD tr (m * 8 + 0) 0;
-      block = getD tr (m * 8 + 2) 0;
-      complex = getD tr (m * 8 + 3) 0;
-      initiator = getD tr (m * 8 + 4) 0;
-      report = getD tr (m * 8 + 5) 0;
-      close = close;
-      asked = asked;
-      time = now;
-    })
-    ≡ factsOf tr sn m y home close asked now
-unfolding factsOf
-facts-read tr sn m y home close asked now = refl
-
 claim-at-most-size : (why size contracts traded : ℕ) → claimOf why size contracts traded ≤ size
 unfolding claimOf
 claim-at-most-size why size contracts traded = byTest (eqb why 0) (λ z. rw z (omega arith)) (λ z. rw z (omega arith))
@@ -448,4 +427,4 @@ record-placed exchanges home r cl trades n ok known eighth room =
       room = room;
     }
 
-pub ruleset line-laws = (facts-read, line-filed, trade-known, trade-size-known, sender-from-one, sender-known, order-taken, no-order)
+pub ruleset line-laws = (line-filed, trade-known, trade-size-known, sender-from-one, sender-known, order-taken, no-order)
