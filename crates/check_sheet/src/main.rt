@@ -5,14 +5,8 @@ use libc::STDERR_FILENO;
 use libc::STDOUT_FILENO;
 use said::Checked;
 
-fn check(journal: &[u8], n: usize, sheet: &[u8], k: usize) {
-    if journal.len() < n {
-        return;
-    }
-    if sheet.len() < k {
-        return;
-    }
-    if let Checked::Refused { no, place } = answers::check_sheet(&journal[..n], &sheet[..k]) {
+fn check(journal: &[u8], sheet: &[u8]) {
+    if let Checked::Refused { no, place } = answers::check_sheet(journal, sheet) {
         feed::refused(STDOUT_FILENO, no, place);
         return;
     }
@@ -32,5 +26,5 @@ fn main() {
     let Input::Taken(k) = feed::file(2, &mut sheet) else {
         return;
     };
-    check(&journal, n, &sheet, k);
+    check(&journal[..n], &sheet[..k]);
 }

@@ -11,19 +11,12 @@ impl List {
     const ROOM: usize = 262144;
 }
 
-fn print(journal: &[u8], n: usize, list: &mut [u8]) {
-    if journal.len() < n {
-        return;
-    }
-    let answered: Rewritten = answers::print_day(&journal[..n], list);
-    feed::answer(answered, list, STDOUT_FILENO);
-}
-
 fn main() {
     let mut journal = [0u8; Room::JOURNAL_INPUT];
     let mut list = [0u8; List::ROOM];
     let Input::Taken(n) = feed::standard_input(&mut journal) else {
         return;
     };
-    print(&journal, n, &mut list);
+    let answered: Rewritten = answers::print_day(&journal[..n], &mut list);
+    feed::answer(answered, &list, STDOUT_FILENO);
 }

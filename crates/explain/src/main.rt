@@ -119,14 +119,11 @@ fn orders(cl: &[u32; 6144], tr: &[u32; 1024], trades: usize, lines: usize)
     }
 }
 
-fn explain(journal: &[u8], n: usize) {
-    if journal.len() < n {
-        return;
-    }
+fn explain(journal: &[u8]) {
     let mut tr = [0u32; 1024];
     let mut cl = [0u32; 6144];
     let mut rows = [0u32; 1];
-    match survey::survey(&journal[..n], &mut tr, &mut cl, &mut rows) {
+    match survey::survey(journal, &mut tr, &mut cl, &mut rows) {
         Surveyed::Stopped { no, place } => feed::refused(STDOUT_FILENO, no, place),
         Surveyed::Whole {
             trades,
@@ -141,5 +138,5 @@ fn main() {
     let Input::Taken(n) = feed::standard_input(&mut journal) else {
         return;
     };
-    explain(&journal, n);
+    explain(&journal[..n]);
 }

@@ -1,4 +1,6 @@
 // What the programs share: lent buffers filled from standard input or a named file, answers sent, refusals said. An answer goes to standard output, whatever is no answer to standard error.
+ghost use lib.ListN.{length};
+ghost use Rattle.feed.specs.Filled.{Filled};
 use journal::Rewritten;
 use libc::STDIN_FILENO;
 use libc::STDOUT_FILENO;
@@ -33,7 +35,9 @@ impl Room {
 }
 
 // Reads until buf is full or the input ends.
-pub fn take(fd: i32, buf: &mut [u8]) -> Input {
+pub fn take(fd: i32, buf: &mut [u8]) -> Input
+    ensures { λ r. ⌜ Filled (length (now (buf .exit))) r ⌝ }
+{
     let mut done: usize = 0;
     while done < buf.len() {
         let part = &mut buf[done..];
@@ -50,7 +54,9 @@ pub fn take(fd: i32, buf: &mut [u8]) -> Input {
     Input::Taken(done)
 }
 
-pub fn standard_input(buf: &mut [u8]) -> Input {
+pub fn standard_input(buf: &mut [u8]) -> Input
+    ensures { λ r. ⌜ Filled (length (now (buf .exit))) r ⌝ }
+{
     let got = take(STDIN_FILENO, buf);
     if let Input::Failed = got {
         os::fail(b"standard input");
@@ -59,7 +65,9 @@ pub fn standard_input(buf: &mut [u8]) -> Input {
 }
 
 // Reads the file that argument i names.
-pub fn file(i: usize, buf: &mut [u8]) -> Input {
+pub fn file(i: usize, buf: &mut [u8]) -> Input
+    ensures { λ r. ⌜ Filled (length (now (buf .exit))) r ⌝ }
+{
     let mut path = io::buffer();
     let n = os::arg(i, &mut path);
     if os::errno() != 0 {

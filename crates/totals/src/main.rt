@@ -16,11 +16,8 @@ fn print(sent: u64, filled: u64, cancelled: u64, pending: u64) {
     io::write_all(STDOUT_FILENO, b"\n");
 }
 
-fn total(journal: &[u8], n: usize) {
-    if journal.len() < n {
-        return;
-    }
-    match journal::totals(&journal[..n]) {
+fn total(journal: &[u8]) {
+    match journal::totals(journal) {
         DayTotals::Totals {
             sent,
             filled,
@@ -36,5 +33,5 @@ fn main() {
     let Input::Taken(n) = feed::standard_input(&mut journal) else {
         return;
     };
-    total(&journal, n);
+    total(&journal[..n]);
 }

@@ -4,19 +4,12 @@ use feed::Room;
 use journal::Rewritten;
 use libc::STDERR_FILENO;
 
-fn write(journal: &[u8], n: usize, sheet: &mut [u8]) {
-    if journal.len() < n {
-        return;
-    }
-    let answered: Rewritten = answers::write_sheet(&journal[..n], sheet);
-    feed::answer(answered, sheet, STDERR_FILENO);
-}
-
 fn main() {
     let mut journal = [0u8; Room::JOURNAL_INPUT];
     let mut sheet = [0u8; Room::OWN_SHEET];
     let Input::Taken(n) = feed::standard_input(&mut journal) else {
         return;
     };
-    write(&journal, n, &mut sheet);
+    let answered: Rewritten = answers::write_sheet(&journal[..n], &mut sheet);
+    feed::answer(answered, &sheet, STDERR_FILENO);
 }
