@@ -1,6 +1,7 @@
 #!/bin/sh
-# Every .rt and .antt file stands in the kit's layout, every crate folder is a line of crates.txt, and every must-fail edit fits its
-# file: each `old:` text stands there exactly once, where the edit's replacements before it are made.
+# Every .rt and .antt file stands in the kit's layout, every crate folder is a line of crates.txt, and every must-fail edit says in its
+# first line what would be wrong and fits its file: each `old:` text stands there exactly once, where the edit's replacements before it
+# are made.
 set -eu
 rt fmt --check
 for folder in crates/*/; do
@@ -11,6 +12,7 @@ for edit in crates/*/must-fail/*.edit; do
     [ -f "$edit" ] || continue
     CRATE=${edit%/must-fail/*} awk '
         function unfit(why) { print FILENAME ": " why; failed = 1; exit 1 }
+        NR == 1 && !/^# ./ { unfit("its first line does not say what would be wrong") }
         /^file: / {
             file = substr($0, 7)
             if (!(file in text)) {
