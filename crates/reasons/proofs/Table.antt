@@ -7,6 +7,10 @@ use native.Mathlib.Omega.{arith}
 use lib.Dec.{eqb, ltb}
 use borrow.Author.Tests.{eq-eqb, ne-eqb, le-leb, lt-leb, not-true}
 use Rattle.rules.specs.Basics.{if_then_else_, _==_, Row, firstOf, all}
+use Rattle.rules.specs.Limits.{closingMinutes}
+use Rattle.rules.specs.Record.{notFirm, rotation, complexTrade}
+use Rattle.rules.specs.Verdicts.{neither}
+use Rattle.rules.specs.Reasons.{threeMinutes, oneMinute}
 use Rattle.rules.proofs.Tests.{byTest, and-left, and-right}
 use Rattle.reasons.specs.declared.Facts.{Facts}
 use Rattle.reasons.specs.Reasons.{laterThan, lateAt, requiredOf, byTrade, byTime, byPrice, tradeReason, lateReason, priceReason, reasonOf, claimOf}
@@ -17,15 +21,15 @@ later-by-words report allowed now a b ea eb = rw (ea .0, eb .0)
 
 -- "if the report is at or after close less 300,000"
 module _ (report close now a c : ℕ) (ea : (a ≡ report) × (a < 4294967296)) (ec : (c ≡ close) × (c < 4294967296)) where
-  pub late-in-closing-minutes : c ≤ a + 300_000 → (b : Bool) → b ≡ laterThan report 60_000 now → b ≡ lateAt report close now
+  pub late-in-closing-minutes : c ≤ a + closingMinutes → (b : Bool) → b ≡ laterThan report oneMinute now → b ≡ lateAt report close now
   unfolding lateAt
   late-in-closing-minutes h b e =
-      let k : close - 300_000 ≤ report = omega (arith, ea .0, ec .0) in rw (le-leb (close - 300_000) report k) e
+      let k : close - closingMinutes ≤ report = omega (arith, ea .0, ec .0) in rw (le-leb (close - closingMinutes) report k) e
 
-  pub late-before : a + 300_000 < c → (b : Bool) → b ≡ laterThan report 180_000 now → b ≡ lateAt report close now
+  pub late-before : a + closingMinutes < c → (b : Bool) → b ≡ laterThan report threeMinutes now → b ≡ lateAt report close now
   unfolding lateAt
   late-before h b e =
-      let k : report < close - 300_000 = omega (arith, ea .0, ec .0) in rw (lt-leb (close - 300_000) report k) e
+      let k : report < close - closingMinutes = omega (arith, ea .0, ec .0) in rw (lt-leb (close - closingMinutes) report k) e
 
 module _ (block price there : ℕ) where
   pub required-of-block : block ≡ 1 → price ≡ requiredOf block price there
@@ -48,45 +52,45 @@ module _ (why size customers traded : ℕ) where
 pub ruleset word-laws = (later-by-words, late-in-closing-minutes, late-before, required-of-block, required-otherwise, claim-is-least, no-claim)
 
 module _ (side excused status home initiator complex : ℕ) where
-  pub reason-10 : side ≡ 0 → 10 ≡ tradeReason side excused status home initiator complex
+  pub reason-10 : side ≡ neither → 10 ≡ tradeReason side excused status home initiator complex
   unfolding tradeReason firstOf
-  reason-10 q = rw (eq-eqb side 0 q)
+  reason-10 q = rw (eq-eqb side neither q)
 
-  module _ (p10 : side ≡ 0 → ⊥) where
+  module _ (p10 : side ≡ neither → ⊥) where
     pub reason-2 : excused ≡ 1 → 2 ≡ tradeReason side excused status home initiator complex
     unfolding tradeReason firstOf
-    reason-2 q = rw (ne-eqb side 0 p10, eq-eqb excused 1 q)
+    reason-2 q = rw (ne-eqb side neither p10, eq-eqb excused 1 q)
 
     module _ (p2 : excused ≡ 1 → ⊥) where
-      pub reason-3 : status ≡ 1 → 3 ≡ tradeReason side excused status home initiator complex
+      pub reason-3 : status ≡ notFirm → 3 ≡ tradeReason side excused status home initiator complex
       unfolding tradeReason firstOf
-      reason-3 q = rw (ne-eqb side 0 p10, ne-eqb excused 1 p2, eq-eqb status 1 q)
+      reason-3 q = rw (ne-eqb side neither p10, ne-eqb excused 1 p2, eq-eqb status notFirm q)
 
-      module _ (p3 : status ≡ 1 → ⊥) where
-        module _ (b4 : Bool) (e4 : b4 ≡ (eqb initiator 0 && eqb home 1)) where
+      module _ (p3 : status ≡ notFirm → ⊥) where
+        module _ (b4 : Bool) (e4 : b4 ≡ (eqb initiator 0 && eqb home notFirm)) where
           pub reason-4 : b4 ≡ true → 4 ≡ tradeReason side excused status home initiator complex
           unfolding tradeReason firstOf
-          reason-4 q = rw (ne-eqb side 0 p10, ne-eqb excused 1 p2, ne-eqb status 1 p3, sym e4 ∙ q)
+          reason-4 q = rw (ne-eqb side neither p10, ne-eqb excused 1 p2, ne-eqb status notFirm p3, sym e4 ∙ q)
 
           module _ (p4 : b4 ≡ false) where
-            pub reason-5 : status ≡ 2 → 5 ≡ tradeReason side excused status home initiator complex
+            pub reason-5 : status ≡ rotation → 5 ≡ tradeReason side excused status home initiator complex
             unfolding tradeReason firstOf
-            reason-5 q = rw (ne-eqb side 0 p10, ne-eqb excused 1 p2, ne-eqb status 1 p3, sym e4 ∙ p4, eq-eqb status 2 q)
+            reason-5 q = rw (ne-eqb side neither p10, ne-eqb excused 1 p2, ne-eqb status notFirm p3, sym e4 ∙ p4, eq-eqb status rotation q)
 
-            module _ (p5 : status ≡ 2 → ⊥) where
-              pub reason-6 : home ≡ 2 → 6 ≡ tradeReason side excused status home initiator complex
+            module _ (p5 : status ≡ rotation → ⊥) where
+              pub reason-6 : home ≡ rotation → 6 ≡ tradeReason side excused status home initiator complex
               unfolding tradeReason firstOf
-              reason-6 q = rw (ne-eqb side 0 p10, ne-eqb excused 1 p2, ne-eqb status 1 p3, sym e4 ∙ p4, ne-eqb status 2 p5, eq-eqb home 2 q)
+              reason-6 q = rw (ne-eqb side neither p10, ne-eqb excused 1 p2, ne-eqb status notFirm p3, sym e4 ∙ p4, ne-eqb status rotation p5, eq-eqb home rotation q)
 
-              module _ (p6 : home ≡ 2 → ⊥) where
-                pub reason-7 : complex ≡ 1 → 7 ≡ tradeReason side excused status home initiator complex
+              module _ (p6 : home ≡ rotation → ⊥) where
+                pub reason-7 : complex ≡ complexTrade → 7 ≡ tradeReason side excused status home initiator complex
                 unfolding tradeReason firstOf
-                reason-7 q = rw (ne-eqb side 0 p10, ne-eqb excused 1 p2, ne-eqb status 1 p3, sym e4 ∙ p4, ne-eqb status 2 p5, ne-eqb home 2 p6, eq-eqb complex 1 q)
+                reason-7 q = rw (ne-eqb side neither p10, ne-eqb excused 1 p2, ne-eqb status notFirm p3, sym e4 ∙ p4, ne-eqb status rotation p5, ne-eqb home rotation p6, eq-eqb complex complexTrade q)
 
-                module _ (p7 : complex ≡ 1 → ⊥) where
+                module _ (p7 : complex ≡ complexTrade → ⊥) where
                   pub no-trade-reason : 0 ≡ tradeReason side excused status home initiator complex
                   unfolding tradeReason firstOf
-                  no-trade-reason = rw (ne-eqb side 0 p10, ne-eqb excused 1 p2, ne-eqb status 1 p3, sym e4 ∙ p4, ne-eqb status 2 p5, ne-eqb home 2 p6, ne-eqb complex 1 p7)
+                  no-trade-reason = rw (ne-eqb side neither p10, ne-eqb excused 1 p2, ne-eqb status notFirm p3, sym e4 ∙ p4, ne-eqb status rotation p5, ne-eqb home rotation p6, ne-eqb complex complexTrade p7)
 
 module _ (initiator report close now : ℕ) where
   module _ (l8 b8 : Bool) (d8 : l8 ≡ lateAt report close now) (e8 : b8 ≡ (eqb initiator 0 && l8)) where
@@ -95,7 +99,7 @@ module _ (initiator report close now : ℕ) where
     reason-8 q = rw (sym (e8 ∙ ap (λ z. eqb initiator 0 && z) d8) ∙ q)
 
     module _ (p8 : b8 ≡ false) where
-      module _ (l9 b9 : Bool) (d9 : l9 ≡ laterThan report 180_000 now) (e9 : b9 ≡ (not (eqb initiator 0) && l9)) where
+      module _ (l9 b9 : Bool) (d9 : l9 ≡ laterThan report threeMinutes now) (e9 : b9 ≡ (not (eqb initiator 0) && l9)) where
         pub reason-9 : b9 ≡ true → 9 ≡ lateReason initiator report close now
         unfolding lateReason firstOf
         reason-9 q = rw (sym (e8 ∙ ap (λ z. eqb initiator 0 && z) d8) ∙ p8, sym (e9 ∙ ap (λ z. not (eqb initiator 0) && z) d9) ∙ q)
