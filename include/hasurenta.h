@@ -4,11 +4,13 @@
  * Every function answers one number, refusal * 2^32 + place. Refusal 0 means accepted: then the low 32 bits are how many
  * elements of `out` were written, from its start, and the rest of `out` is as it was (0 for a function without `out`). Any
  * other refusal is one of document 01's table, with its place, or HASURENTA_WRONG_COUNT, and all of `out` is as it was.
+ * A record's kind is one of document 01's 1 to 7, or document 02's 9, without fields: the closing window has begun. It prints
+ * nothing, a second is 7, and of each trade after it every claim is at most 10 contracts.
  * What each function answers is proved for every input: crates/desk/src/lib.rt has the statement over it.
  *
  * A slice is a pointer and a count of elements, and NULL with 0 is an empty one. Nothing is asked of what the slices hold
  * or how long they are. The caller's part: each pointer reaches as many elements as are counted, and `out` overlaps no
- * other slice. Nothing is kept between calls, no memory is taken but the stack (some 300 KB
+ * other slice. Nothing is kept between calls, no memory is taken but the stack (some 250 KB
  * by hasurenta_day, 100 KB by the others), and calls from several threads may run at once. */
 #ifndef HASURENTA_H
 #define HASURENTA_H

@@ -3,7 +3,7 @@
 # number in front and filled up to one length; with way=text the lines of numbers of the program decode become a text.
 
 BEGIN {
-    kinds = split("quote status trade sent response received satisfaction", kind, " ")
+    kinds = split("quote status trade sent response received satisfaction - closing", kind, " ")
     names["header"] = "home exchanges close sizes"
     names["quote"] = "after exchange series bid size customers offer size customers"
     names["status"] = "after exchange state"
@@ -12,7 +12,11 @@ BEGIN {
     names["response"] = "after order filled"
     names["received"] = "after type from series side price size"
     names["satisfaction"] = "after trade from price size"
-    for (k = 1; k <= kinds; k++) number[kind[k]] = k
+    names["closing"] = "after"
+    for (k = 1; k <= kinds; k++) if (kind[k] in names) {
+        number[kind[k]] = k
+        known = known ", " kind[k]
+    }
     most_exchanges = 8
     most_fields = 8
     line_length = 256
@@ -100,7 +104,7 @@ $1 == "header" {
     next
 }
 
-!($1 in number) { fault("unknown word " found(1) ", expected a kind: header, quote, status, trade, sent, response, received or satisfaction") }
+!($1 in number) { fault("unknown word " found(1) ", expected a kind: header" known) }
 
 !headed { fault("expected the header first, found " found(1)) }
 

@@ -50,7 +50,7 @@ for text in examples/*.day; do
     expect 0 check - "$sheet" <"$journal"; wrote accepted
     expect 0 check "$journal" - <"$sheet"; wrote accepted
 done
-[ "$tried" -ge 104 ] || { what=examples; fail "only $tried tries"; }
+[ "$tried" -ge 117 ] || { what=examples; fail "only $tried tries"; }
 
 d=$work/day-d.journal
 printf '\001\002\200\320\273\033\012\012\012\012\001\350\007\002\000\156\024\017\170\024\000\003\000\000\144\014\000\000\000\000\007\350\007\000\002\156\024' >"$work/bytes"
@@ -62,7 +62,7 @@ cmp -s "$work/day-d.sheet" "$work/bytes" || fail 'not 0, 12, 8'
 expect 0 totals "$work/orders.journal"; said_nothing; wrote 'sent 25 filled 6 cancelled 12 pending 7'
 expect 0 totals <"$d"; wrote 'sent 0 filled 0 cancelled 0 pending 0'
 
-# In words: every reason, and a day without a Satisfaction Order.
+# In words: every reason, a claim limited at the close, and a day without a Satisfaction Order.
 what='encode of examples/reasons.day'
 cmp -s "$work/reasons.journal" crates/explain/stdin || fail 'not the journal that explain is run on'
 expect 0 explain "$work/reasons.journal"; said_nothing; wrote_file crates/explain/stdout
@@ -129,7 +129,7 @@ faulty 'line 2: expected a number after "series", found "zero"' "$h\nquote after
 faulty 'line 2: expected a number after "after", found the end of the line' "$h\nstatus after"
 faulty 'line 2: expected "state", found the end of the line' "$h\nstatus after 0 exchange 2\n"
 faulty 'line 3: unknown word "now", expected the end of the line' "$h\n# so far good\nstatus after 0 exchange 2 state 1 now\n"
-faulty 'line 2: unknown word "qoute", expected a kind: header, quote, status, trade, sent, response, received or satisfaction' "$h\nqoute after 0\n"
+faulty 'line 2: unknown word "qoute", expected a kind: header, quote, status, trade, sent, response, received, satisfaction, closing' "$h\nqoute after 0\n"
 faulty 'line 1: expected the header first, found "status"' 'status after 0 exchange 2 state 1\n'
 faulty 'line 3: a second header' "$h\n\n$h\n"
 faulty 'line 1: expected 4 sizes, found 3' 'header home 1 exchanges 2 close 57600000 sizes 10 10 10\n'
@@ -144,6 +144,9 @@ faulty 'line 3: refused 5' "$h\nstatus after 86399999 exchange 2 state 1\nstatus
 faulty 'line 2: refused 6' "$h\nquote after 0 exchange 2 series 0 bid 120 size 1 customers 0 offer 120 size 1 customers 0\n"
 faulty 'line 4: refused 7' "$h\n$q\n# none was sent\nresponse after 0 order 0 filled 0\nresponse after 0 order 1 filled 0\n"
 faulty 'line 2: refused 7' "$h\nresponse after 0 order 0 filled 0\nstatus after 0 exchange 3 state 1\n"
+faulty 'line 4: refused 7' "$h\nclosing after 0\n$q\nclosing after 1\n"
+faulty 'line 2: expected a number after "after", found the end of the line' "$h\nclosing after"
+faulty 'line 2: unknown word "series", expected the end of the line' "$h\nclosing after 0 series 0\n"
 awk -v h="$h" -v q="$q" 'BEGIN { print h; for (i = 0; i < 3000; i++) print q }' >"$work/text"
 expect 1 encode "$work/text"; wrote_nothing; named 'refused 1'
 printf '  header\thome 01 exchanges 2 close 57600000 sizes 10 10 10 0000000000010 # all in one line\r\n\r\n' >"$work/text"

@@ -49,6 +49,8 @@ pub struct Trade {
     pub traded_through: u32,
     /// "The trade is larger than the customer firm size with any exchange traded through, asked or not."
     pub larger_than_firm: bool,
+    /// It stands after the closing record in the journal, in whatever millisecond.
+    pub in_closing_window: bool,
     standings: [Standing; Exchanges::MOST as usize],
     lines: [u16; Trade::MOST_LINES],
     line_count: usize,
@@ -61,6 +63,18 @@ impl Trade {
     /// Its lines of the sheet, in their order.
     pub fn lines(&self) -> &[u16] {
         &self.lines[..self.line_count]
+    }
+
+    /// "The least of order size, customer contracts and trade size": the claim of a line with reason 0, but for the
+    /// limit at the close.
+    pub fn claim_without_limit(&self, size: u32, customers: u32) -> u32 {
+        size.min(customers).min(self.size)
+    }
+
+    /// The claim of a line with reason 0.
+    pub fn claim(&self, size: u32, customers: u32) -> u32 {
+        let claim = self.claim_without_limit(size, customers);
+        if self.in_closing_window { claim.min(Line::MOST_CLAIM_AT_CLOSE) } else { claim }
     }
 
     pub fn due_total(&self, sum_of_claims: u32) -> u32 {
@@ -96,10 +110,16 @@ pub struct Line {
     pub customers: u32,
 }
 
+impl Line {
+    /// "For a trade after it, each claim is also at most 10, and due totals follow."
+    pub const MOST_CLAIM_AT_CLOSE: u32 = 10;
+}
+
 pub struct Desk<'h> {
     pub header: &'h Header,
     pub market: Market,
     open_orders: OpenOrders,
+    closing_window_begun: bool,
     pub trades: Vec<Trade>,
     pub lines: Vec<Line>,
 }
@@ -110,6 +130,7 @@ impl<'h> Desk<'h> {
             header,
             market: Market::default(),
             open_orders: OpenOrders::default(),
+            closing_window_begun: false,
             trades: Vec::with_capacity(HomeTrade::MOST),
             lines: Vec::with_capacity(Satisfaction::MOST),
         }
@@ -180,6 +201,7 @@ impl<'h> Desk<'h> {
             last_timely: self.last_timely(time, home_trade),
             traded_through: 0,
             larger_than_firm: false,
+            in_closing_window: self.closing_window_begun,
             standings: [Standing::NOT_TRADED_THROUGH; Exchanges::MOST as usize],
             lines: [0; Trade::MOST_LINES],
             line_count: 0,
@@ -227,14 +249,18 @@ impl Watcher for Desk<'_> {
         }
     }
 
-    /// "Claim: 0 for a reason other than 0; else the least of order size, customer contracts and trade size."
+    /// "Claim: 0 for a reason other than 0."
     fn satisfaction_order(&mut self, at: Moment, order: &Satisfaction) {
         let trade = &mut self.trades[order.trade];
         let reason = trade.reason(at.time, order);
         let customers = trade.standings[order.from].customers;
-        let claim = if reason == reason::NONE { order.size.min(customers).min(trade.size) } else { 0 };
+        let claim = if reason == reason::NONE { trade.claim(order.size, customers) } else { 0 };
         trade.lines[trade.line_count] = self.lines.len() as u16;
         trade.line_count += 1;
         self.lines.push(Line { reason, size: order.size, claim, customers });
+    }
+
+    fn closing_window(&mut self, _at: Moment) {
+        self.closing_window_begun = true;
     }
 }

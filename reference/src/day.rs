@@ -123,6 +123,11 @@ impl Watcher for Day<'_> {
         self.desk.satisfaction_order(at, order);
         self.print(at, b'F', [0; 3]);
     }
+
+    /// "It prints nothing."
+    fn closing_window(&mut self, at: Moment) {
+        self.desk.closing_window(at);
+    }
 }
 
 /// The list for the whole journal.

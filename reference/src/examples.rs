@@ -1,5 +1,5 @@
-//! Day D and the thirteen examples of the paper, by number. Examples 4 to 7 leave prices, senders and N open: here home
-//! is 1 of four, the trade is at 100 and exchanges 2, 3, 4 bid 110.
+//! Day D and the thirteen examples of the paper, by number, and the ten contracts at the close. Examples 4 to 7 leave
+//! prices, senders and N open: here home is 1 of four, the trade is at 100 and exchanges 2, 3, 4 bid 110.
 
 use crate::claims::Desk;
 use crate::event::{HomeTrade, Quote};
@@ -44,11 +44,22 @@ fn sheet_of(fills: &[u32], sizes: &[u32]) -> Vec<u8> {
 }
 
 /// A trade at 100, and Satisfaction Orders for it at the 110 that exchanges 2, 3, .. bid for these customers.
-fn shared(trade: u32, customers: &[u32], sizes: &[u32]) -> Vec<u8> {
+fn shared_records(trade: u32, customers: &[u32], sizes: &[u32]) -> Vec<Vec<u32>> {
     let quotes = customers.iter().zip(2..).map(|(&held, from)| vec![1, 0, from, 0, 110, held, held, 0, 0, 0]);
     let made = [vec![3, 0, 0, 100, trade, 0, 0, 0, 0]];
     let asked = sizes.iter().zip(2..).map(|(&size, from)| vec![7, 0, 0, from, 110, size]);
-    let records: Vec<Vec<u32>> = quotes.chain(made).chain(asked).collect();
+    quotes.chain(made).chain(asked).collect()
+}
+
+fn shared(trade: u32, customers: &[u32], sizes: &[u32]) -> Vec<u8> {
+    let records = shared_records(trade, customers, sizes);
+    day_of(&records.iter().map(Vec::as_slice).collect::<Vec<_>>())
+}
+
+/// The same for two of 30, with the closing record at a place among the records: two quotes, the trade, two claims.
+fn shared_at_close(trade: u32, closing: usize) -> Vec<u8> {
+    let mut records = shared_records(trade, &[30; 2], &[30; 2]);
+    records.insert(closing, vec![9, 0]);
     day_of(&records.iter().map(Vec::as_slice).collect::<Vec<_>>())
 }
 
@@ -180,4 +191,40 @@ fn example_13_day_d() {
     let mut again = vec![0; journal.len()];
     assert_eq!(journal::rewrite(&journal, &mut again), Ok(journal.len()));
     assert_eq!(again, journal);
+}
+
+#[test]
+fn at_the_close_each_claim_is_at_most_ten() {
+    let sizes = [30; 2];
+    for (trade, fills) in [(30, [10, 10]), (12, [6, 6]), (10, [10, 10]), (9, [9, 9]), (19, [10, 9]), (20, [10, 10])] {
+        for closing in 0..=2 {
+            let journal = shared_at_close(trade, closing);
+            assert_eq!(own_sheet(&journal), sheet_of(&fills, &sizes), "trade of {trade}");
+        }
+    }
+    assert_eq!(good_fills(&shared_at_close(30, 2), &sizes), [[10, 10]]);
+    assert_eq!(good_fills(&shared_at_close(12, 2), &sizes), [[6, 6]]);
+    assert_eq!(good_fills(&shared_at_close(19, 2), &sizes), [[9, 10], [10, 9]]);
+}
+
+#[test]
+fn a_trade_before_the_closing_record_keeps_its_claims() {
+    let sizes = [30; 2];
+    for closing in 3..=5 {
+        let journal = shared_at_close(30, closing);
+        assert_eq!(own_sheet(&journal), sheet_of(&[15, 15], &sizes));
+        assert_eq!(good_fills(&journal, &sizes), [[15, 15]]);
+    }
+    let fill_above_claim = Err(Refusal { no: No::AboveClaim, place: 0 });
+    assert_eq!(sheet::check(&shared_at_close(30, 2), &sheet_of(&[15, 15], &sizes)), fill_above_claim);
+}
+
+#[test]
+fn the_closing_record_is_an_event_that_prints_nothing() {
+    let records: [&[u32]; 4] = [&[1, 0, 1, 0, 100, 5, 0, 0, 0, 0], &[9, 0], &[9, 1], &[6, 0, 2, 2, 0, 2, 100, 10]];
+    let [quote, closing, second, order] = records;
+    assert_eq!(printed(&[closing]), "event what a b c\n");
+    assert_eq!(printed(&[quote, closing, order]), "event what a b c\n0 Q 0 0 0\n2 R 1 10 0\n");
+    assert_eq!(printed(&[closing, second]), format!("refused 7 at {}\n", day_of(&[closing]).len()));
+    assert_eq!(printed(&[closing, &[9, 86_400_000]]), format!("refused 5 at {}\n", day_of(&[closing]).len()));
 }

@@ -1,5 +1,5 @@
-//! The linkage desk's journal, verdicts and sheets in plain Rust, written from document 01 alone: a second opinion for
-//! the proved code, and its peer in speed.
+//! The linkage desk's journal, verdicts and sheets in plain Rust, written from documents 01 and 02 alone: a second
+//! opinion for the proved code, and its peer in speed.
 
 pub mod ask;
 pub mod claims;

@@ -4,13 +4,14 @@ use crate::fuzz::activity::Activity;
 use crate::fuzz::chance::Chance;
 use crate::header::Header;
 use crate::journal::Journal;
+use crate::record::kind;
 
 /// Every kind with what it is full of.
 pub const KINDS: [(&str, &str); 4] = [
     ("quotes", "quotes of eight exchanges in every series"),
     ("claims", "128 trades, 256 sent orders, 512 Satisfaction Orders"),
     ("worst", "one trade of 100,000 contracts shared among seven exchanges"),
-    ("mixed", "all that happens on a market"),
+    ("mixed", "all that happens on a market, and the closing record in the middle"),
 ];
 
 /// A journal of exactly as many bytes as one may have.
@@ -69,7 +70,13 @@ fn worst(day: &mut Activity) {
 }
 
 fn mixed(day: &mut Activity) {
-    while day.bytes.len() + 600 < Journal::MOST_BYTES {
+    mix_up_to(day, Journal::MOST_BYTES / 2);
+    day.add_as_is(kind::CLOSING_WINDOW, 0, &[]);
+    mix_up_to(day, Journal::MOST_BYTES - 600);
+}
+
+fn mix_up_to(day: &mut Activity, length: usize) {
+    while day.bytes.len() < length {
         if day.trades() < 127 && day.sent() < 255 && day.satisfactions < 505 {
             day.something();
         } else {

@@ -1,9 +1,11 @@
-//! Small cases of numbers, refusals and questions, and that every made journal is a full one.
+//! Small cases of numbers, records, refusals and questions, and that every made journal is a full one.
 
 use crate::ask::{self, Question};
+use crate::header::{FirmSizes, Header};
 use crate::journal::Journal;
 use crate::number::Reader;
-use crate::refusal::No;
+use crate::record::{Record, kind};
+use crate::refusal::{No, Refusal};
 use crate::{day, journal, make};
 
 fn read(bytes: &[u8]) -> Option<(u32, usize)> {
@@ -36,6 +38,36 @@ fn numbers_that_cannot_be_read() {
 fn an_empty_journal_and_one_that_is_too_long() {
     assert_eq!(day::printed(&[]), b"refused 2 at 0\n");
     assert_eq!(day::printed(&vec![0; Journal::MOST_BYTES + 1]), b"refused 1 at 0\n");
+}
+
+fn two_exchanges() -> Header {
+    let mut header = Header { home: 1, exchanges: 2, close: 57_600_000, ..Header::default() };
+    header.sizes[..2].fill(FirmSizes { automatic: 10, principal: 10 });
+    header
+}
+
+#[test]
+fn a_closing_record_alone_has_no_fields() {
+    let header = two_exchanges();
+    let closing = Record { kind: kind::CLOSING_WINDOW, milliseconds: 300, ..Record::default() };
+    let with_fields_beyond = Record { fields: [u32::MAX; Record::MOST_FIELDS], ..closing };
+    let mut out = [0; 4];
+    assert_eq!(with_fields_beyond.write(&header, 0, &mut out), Ok(3));
+    assert_eq!(out, [9, 0xAC, 0x02, 0]);
+    assert_eq!(Record::read_alone(&header, 0, &out), Ok((3, closing)));
+    let refused = |no, place| Err(Refusal { no, place });
+    assert_eq!(Record::read_alone(&header, 86_399_700, &out), refused(No::Field, 0));
+    assert_eq!(Record::read_alone(&header, 0, &out[..2]), refused(No::UnreadableNumber, 1));
+    assert_eq!(closing.write(&header, 86_399_700, &mut out), Err(Refusal::new(No::Field)));
+    assert_eq!(closing.write(&header, 0, &mut out[..2]), Err(Refusal::new(No::OutputTooShort)));
+}
+
+#[test]
+fn unknown_kinds() {
+    for kind in [0, 8, 10, 11, 128] {
+        let unknown = Record { kind, ..Record::default() };
+        assert_eq!(unknown.write(&two_exchanges(), 0, &mut [0; 4]), Err(Refusal::new(No::UnknownKind)));
+    }
 }
 
 #[test]

@@ -1,11 +1,11 @@
-//! Holds the library against a file of questions and one of right answers, line by line.
+//! Holds the library against files of questions and of right answers, line by line.
 
 use crate::header::Header;
 use crate::record::Record;
 use crate::refusal::Refusal;
 use crate::{day, journal, sheet, totals};
 use std::collections::BTreeMap;
-use std::path::Path;
+use std::path::{Path, PathBuf};
 use std::{fs, io};
 
 /// How many lines of one question were held, and how many differ.
@@ -15,12 +15,33 @@ pub struct Count {
     pub differences: usize,
 }
 
-/// Checks `base.questions` against `base.answers` in a folder; differing lines are printed.
+/// Checks every NAME.questions in a folder against its NAME.answers, in order of name; differing lines are printed.
 pub fn check(folder: &Path) -> io::Result<BTreeMap<String, Count>> {
-    let questions = fs::read_to_string(folder.join("base.questions"))?;
-    let answers = fs::read_to_string(folder.join("base.answers"))?;
-    let mut counts: BTreeMap<String, Count> = BTreeMap::new();
+    let mut counts = BTreeMap::new();
+    for questions in files_of_questions(folder)? {
+        println!("{}", questions.display());
+        check_file(&questions, &mut counts)?;
+    }
+    Ok(counts)
+}
+
+/// In order of name; a folder without any is an error.
+fn files_of_questions(folder: &Path) -> io::Result<Vec<PathBuf>> {
+    let held = fs::read_dir(folder)?.map(|entry| entry.map(|file| file.path()));
+    let mut files = held.collect::<io::Result<Vec<PathBuf>>>()?;
+    files.retain(|file| file.extension().is_some_and(|end| end == "questions"));
+    files.sort();
+    if files.is_empty() {
+        let message = format!("no NAME.questions in {}", folder.display());
+        return Err(io::Error::new(io::ErrorKind::NotFound, message));
+    }
+    Ok(files)
+}
+
+fn check_file(questions: &Path, counts: &mut BTreeMap<String, Count>) -> io::Result<()> {
+    let answers = fs::read_to_string(questions.with_extension("answers"))?;
     let mut right = answers.lines();
+    let questions = fs::read_to_string(questions)?;
     for (at, question) in questions.lines().enumerate() {
         let words: Vec<&str> = question.split(' ').collect();
         let given = answer(&words).unwrap_or_else(|| "unreadable question".into());
@@ -31,8 +52,8 @@ pub fn check(folder: &Path) -> io::Result<BTreeMap<String, Count>> {
             println!("line {}: {given}", at + 1);
         }
     }
-    counts.entry("answers without a question".into()).or_default().differences = right.count();
-    Ok(counts)
+    counts.entry("answers without a question".into()).or_default().differences += right.count();
+    Ok(())
 }
 
 /// The answer's line, or none for a question that can't be read.
@@ -78,7 +99,7 @@ fn read_record(words: &[&str]) -> Option<String> {
     };
     Some(said(Record::read_alone(&header, time.parse().ok()?, &bytes(record)?), |(used, record)| {
         let mut line = format!("ok {used} {} {}", record.kind, record.milliseconds);
-        for field in &record.fields[..Record::field_count(record.kind)] {
+        for field in record.own_fields() {
             line += &format!(" {field}");
         }
         line

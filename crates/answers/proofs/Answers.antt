@@ -103,9 +103,6 @@ module _ (s lent tr cl list : List ℕ) (v : Surveyed) (sv : SurveyedAs s lent t
     pub few-lines : lines ≤ mostSatisfactionOrders
     few-lines = told .books .filing .few
 
-    pub few-rows : listed ≤ mostRows
-    few-rows = told .few-listed
-
     pub sheet-written : (out out2 : List ℕ) (w : Written) → OwnWritten cl tr trades lines out w out2 → (r : Rewritten) → r ≡ answeredAs w
         → leftBy r out2 ≡ leaves (writeSheet s (length out)) out
     unfolding writeSheet _>>=_
@@ -119,13 +116,16 @@ module _ (s lent tr cl list : List ℕ) (v : Surveyed) (sv : SurveyedAs s lent t
       pub full-rows : length list ≡ listWords
       full-rows = sv .long ∙ full
 
+      pub few-rows : listed ≤ mostRows
+      few-rows = told .few-listed full-rows
+
       pub day-printed : (out out2 : List ℕ) (r : Rewritten) → DayPrinted cl tr trades lines list listed out r out2
           → leftBy r out2 ≡ leaves (writeDay s (length out)) out
       unfolding writeDay _>>=_
       day-printed out out2 r printed = rw (told .accepted) (printed .so (told .journal-is) (told .books) (told .listing (sv .long ∙ full)))
 
-pub full-list : length {A = ℕ} (replicate 40960 0) ≡ listWords
-full-list = length-replicate {A = ℕ} 40960 0
+pub full-list : length {A = ℕ} (replicate listWords 0) ≡ listWords
+full-list = length-replicate {A = ℕ} listWords 0
 
 pub ruleset answer-laws = (
   day-refused,

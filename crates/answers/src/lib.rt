@@ -12,6 +12,7 @@ ghost use Rattle.list.specs.Listing.{mostRows, listWords};
 ghost use Rattle.checker.specs.Check.{checkedAs};
 ghost use Rattle.answers.specs.Answers.{answeredAs, DayPrinted};
 use journal::Rewritten;
+use list::Row;
 use said::Checked;
 use survey::Surveyed;
 use text::Written;
@@ -51,7 +52,7 @@ pub fn print_day(s: &[u8], out: &mut [u8]) -> Rewritten
 {
     let mut tr = [0u32; 1024];
     let mut cl = [0u32; 6144];
-    let mut rows = [0u32; 40960];
+    let mut rows = [0u32; Row::MOST * Row::WORDS];
     match survey::survey(s, &mut tr, &mut cl, &mut rows) {
         Surveyed::Stopped { no, place } => Rewritten::Unwritten { no, place },
         Surveyed::Whole {

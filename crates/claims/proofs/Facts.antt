@@ -74,6 +74,6 @@ module _ (h : Header) (past : History) (tr sn : List ℕ) (trades m y home : ℕ
   there-is = rw (held .snaps m y 1 hm hy (omega arith), case-is) (there-word _ y es)
 
   pub claim-is : (why contracts size : ℕ) → why ≡ reason h (caseOf past e) → contracts ≡ customers (caseOf past e) → (satisfaction e) .size ≡ size
-      → claimOf why size contracts (getD tr (m * 8 + 1) 0) ≡ claim h (caseOf past e)
+      → claimOf why size contracts (getD tr (m * 8 + 1) 0) (getD tr (m * 8 + 7) 0) ≡ claim h (caseOf past e)
   claim-is why contracts size ew eu ez =
-      rw (ew, eu, ← customers-are, held .snaps m y 2 hm hy (omega arith), held .rows m 1 hm (omega arith), case-is) (sym (claim-words h _ y es size ez))
+      rw (ew, eu, ← customers-are, held .snaps m y 2 hm hy (omega arith), held .rows m 1 hm (omega arith), held .rows m 7 hm (omega arith), case-is) (sym (claim-words h _ y es size ez))

@@ -13,10 +13,11 @@ use Rattle.rules.specs.Header.{Header}
 use Rattle.rules.specs.Record.{Event, field, satisfaction, isSatisfaction, satisfactionKind}
 use Rattle.rules.specs.Journal.{History, Happened, count, nth}
 use Rattle.rules.specs.Reasons.{caseOf, customers, reason}
-use Rattle.rules.specs.Due.{Line, lineOf, linesOf, ofTrade, claimsOf, claim}
+use Rattle.rules.specs.Due.{leastOf, Line, lineOf, linesOf, ofTrade, claimsOf, claim}
 use Rattle.rules.proofs.Tests.{byTest, keep-more}
 use Rattle.rules.proofs.Below.{one-more-below, same-below}
 use Rattle.rules.proofs.Histories.{count-cons, count-skip, nth-skip, nth-older, nth-new}
+use Rattle.rules.proofs.Lines.{limited-at-most}
 use Rattle.rows.specs.Rows.{Reads, word, Put, RecOk}
 use Rattle.rows.specs.declared.Rec.{Rec}
 use Rattle.orders.specs.Orders.{Headed, Heads}
@@ -131,9 +132,10 @@ line-is u n why contracts due sender side there r h e past rd here a b c =
       c,
     )
 
-claim-at-most-size : (why size contracts traded : ℕ) → claimOf why size contracts traded ≤ size
+claim-at-most-size : (why size contracts traded closing : ℕ) → claimOf why size contracts traded closing ≤ size
 unfolding claimOf
-claim-at-most-size why size contracts traded = byTest (eqb why 0) (λ z. rw z (omega arith)) (λ z. rw z (omega arith))
+claim-at-most-size why size contracts traded closing =
+    byTest (eqb why 0) (λ z. rw z (omega (arith, limited-at-most (eqb closing 1) (leastOf size contracts traded)))) (λ z. rw z (omega arith))
 
 -- ---- the three stores of a line
 
@@ -192,8 +194,8 @@ module _ (r : Rec) (cl : List ℕ) (trades exchanges n : ℕ) (pl : Placed r cl 
     pub trade-known : m < 128
     trade-known = omega (arith, em .0, pl .trade kind)
 
-    pub trade-size-known : m * 8 + 1 < 1024
-    trade-size-known = omega (arith, trade-known)
+    pub trade-word-known : (i : ℕ) → i < 8 → m * 8 + i < 1024
+    trade-word-known i h = omega (arith, trade-known)
 
   module _ (x : ℕ) (ex : (x ≡ word r 1) × (x < 4294967296)) where
     pub sender-from-one : 1 ≤ x
@@ -212,9 +214,9 @@ module _ (r : Rec) (home exchanges close : ℕ) (tr sn : List ℕ) (trades : ℕ
   eighth-left = rw (em .0) (pl .first kind)
 
   module _ (k : Facts) (ek : k ≡ factsOf tr sn m (x - 1) home close (word r 2) (r .time)) (why : ℕ) (ew : why ≡ reasonOf k)
-      (due : ℕ) (ed : due ≡ claimOf why (word r 3) (k .customers) (getD tr (m * 8 + 1) 0)) where
+      (due : ℕ) (ed : due ≡ claimOf why (word r 3) (k .customers) (getD tr (m * 8 + 1) 0) (getD tr (m * 8 + 7) 0)) where
     claim-small : due ≤ 100000
-    claim-small = omega (arith, claim-at-most-size why (word r 3) (k .customers) (getD tr (m * 8 + 1) 0), pl .fields kind .size, ed)
+    claim-small = omega (arith, claim-at-most-size why (word r 3) (k .customers) (getD tr (m * 8 + 1) 0) (getD tr (m * 8 + 7) 0), pl .fields kind .size, ed)
 
     pub order-fileable : Fileable cl (word r 0 ∷ word r 3 ∷ why ∷ k .customers ∷ due ∷ word r 1 ∷ k .side ∷ k .there ∷ []) n m
     unfolding manyOf sumOf
@@ -427,4 +429,4 @@ record-placed exchanges home r cl trades n ok known eighth room =
       room = room;
     }
 
-pub ruleset line-laws = (line-filed, trade-known, trade-size-known, sender-from-one, sender-known, order-taken, no-order)
+pub ruleset line-laws = (line-filed, trade-known, trade-word-known, sender-from-one, sender-known, order-taken, no-order)

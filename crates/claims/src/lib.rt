@@ -119,7 +119,8 @@ pub fn keep_claim(
     let side = k.side;
     let there = k.there;
     let why = reasons::reason_of(k);
-    let claim = reasons::claim_of(why, row[3], customers, tr[m * 8 + Kept::SIZE]);
+    let traded = tr[m * 8 + Kept::SIZE];
+    let claim = reasons::claim_of(why, row[3], customers, traded, tr[m * 8 + Kept::CLOSING]);
     file_line(
         cl,
         n,

@@ -7,7 +7,7 @@ use libc::STDOUT_FILENO;
 struct List;
 
 impl List {
-    // Records take four bytes or more, so there are fewer than 8,192; a line takes at most 24 bytes, as `8191 F 13 100000 100000` does with its LF.
+    // A line is told by a record of six numbers or more, so there are fewer than 5,462; it takes at most 25 bytes, as `16383 F 13 100000 100000` does with its LF.
     const ROOM: usize = 262144;
 }
 

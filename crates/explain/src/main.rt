@@ -8,6 +8,7 @@ use feed::Room;
 use libc::STDOUT_FILENO;
 use numbered::Trade;
 use prices::Side;
+use reasons::Claim;
 use survey::Surveyed;
 use trades::Kept;
 
@@ -41,6 +42,9 @@ fn trade(tr: &[u32; 1024], m: usize)
     if tr[m * 8 + Kept::INITIATOR] != 0 {
         words::told(b", initiated by exchange ", tr[m * 8 + Kept::INITIATOR]);
     }
+    if tr[m * 8 + Kept::CLOSING] == 1 {
+        words::say(b", after the closing record");
+    }
     words::say(b"\n");
 }
 
@@ -63,6 +67,23 @@ fn through(cl: &[u32; 6144], i: usize)
     words::say(b" customer contracts\n");
 }
 
+// "For a trade after it, each claim is also at most 10": what the claim would be without that, where that is more.
+fn limit(lines: &[u32; 6144], kept: &[u32; 1024], line: usize, trade: usize)
+    requires { ⌜ line < mostSatisfactionOrders ⌝ }
+    requires { ⌜ trade < mostTrades ⌝ }
+{
+    let claim = lines[line * 8 + Line::CLAIM];
+    let customers = lines[line * 8 + Line::CUSTOMERS];
+    let traded = kept[trade * 8 + Kept::SIZE];
+    let least = reasons::least_of(lines[line * 8 + Line::SIZE], customers, traded);
+    if lines[line * 8 + Line::REASON] != 0 || least <= claim {
+        return;
+    }
+    words::told(b", limited from ", least);
+    words::told(b": at most ", Claim::MOST_AT_THE_CLOSE);
+    words::say(b" contracts for a trade after the closing record, 6.94(a)(2)(ii)(C)");
+}
+
 // What is due to the trade, and this order's part of it. Says whether it could be written.
 fn amounts(cl: &[u32; 6144], tr: &[u32; 1024], fills: &[u32; 512], i: usize, m: usize) -> bool
     requires { ⌜ i < mostSatisfactionOrders ⌝ }
@@ -70,6 +91,7 @@ fn amounts(cl: &[u32; 6144], tr: &[u32; 1024], fills: &[u32; 512], i: usize, m: 
 {
     let claim = cl[i * 8 + Line::CLAIM];
     words::told(b"  claim ", claim);
+    limit(cl, tr, i, m);
     words::told(
         b"; due to all orders for the trade: ",
         claims::due_total(cl, tr, m),

@@ -1,21 +1,23 @@
 -- A record of any kind: its row, where it is judged or a Satisfaction Order, is its line of the printed day.
-use mathlib.Core.Path.{_≡_, refl, sym, _∙_}
-use mathlib.Core.Bool.{false}
+use mathlib.Core.Path.{_≡_, refl, sym, ap, _∙_}
+use mathlib.Core.Bool.{false, _&&_}
 use mathlib.Core.List.{List, [], _∷_, _++_, flatMap, append-nil}
-use Prim.Native.Nat.{ℕ, _+_, _*_, _%_, _<_}
+use Prim.Native.Nat.{ℕ, _+_, _*_, _%_, _<_, _≤_}
 use Prim.Native.String.{String}
 use native.Mathlib.Omega.{arith}
 use lib.ListN.{length}
-use borrow.Author.Tests.{ne-eqb}
+use borrow.Author.Tests.{ne-eqb, eqb-true}
 use Rattle.rules.specs.Basics.{_==_}
 use Rattle.rules.specs.Header.{Header}
-use Rattle.rules.specs.Record.{Event, isSatisfaction, satisfactionKind}
+use Rattle.rules.specs.Record.{quoteKind, tradeKind, sentKind, receivedKind, satisfactionKind, fieldsAmong, fieldsOf, Event, quote, isQuote, isTrade, isSent, isReceived, isSatisfaction}
 use Rattle.rules.specs.Journal.{History, count}
 use Rattle.rules.specs.OwnSheet.{SheetLine}
 use Rattle.rules.specs.GoodSheet.{saidAt}
 use Rattle.rules.specs.Verdicts.{verdict}
 use Rattle.rules.specs.PrintedDay.{ascii, printedLine, oneLine, sheetVerdict, judged, settled, listed}
-use Rattle.rules.proofs.Tests.{flat-append}
+use Rattle.rules.proofs.Tests.{byTest, flat-append}
+use Rattle.rules.proofs.Records.{fields-as-many, InRange}
+use Rattle.rules.proofs.Journals.{numbersIn}
 use Rattle.rows.specs.declared.Rec.{Rec}
 use Rattle.market.specs.Judged.{judgedAs, JudgedIs}
 use Rattle.market.specs.declared.Judged.{Judged}
@@ -26,14 +28,14 @@ use Rattle.list.proofs.Rows.{text-none, put-verdict, put-order}
 -- the list of no records
 pub listing-none : (h : Header) (list : List ℕ) → Listing h [] list 0
 unfolding listed flatMap
-listing-none h list = record { so = λ own. text-none own list; few = omega arith }
+listing-none h list = record { so = λ own. text-none own list; few = unfold numbersIn in omega arith }
 
 -- ---- a verdict
 
 module _ (list : List ℕ) (n event : ℕ) (v : Judged) where
   pub nothing-put : v ≡ Nothing → JudgedPut list n event v list n
   unfolding judgedAs flatMap
-  nothing-put e = record { so = λ own. rw e (sym (append-nil (textFrom own list n))); long = refl; more = omega arith }
+  nothing-put e = record { so = λ own. rw e (sym (append-nil (textFrom own list n))); lines = rw e (omega arith); long = refl; more = omega arith }
 
   module _ (a b c : ℕ) (list2 : List ℕ) (n2 : ℕ) where
     letter-put : (letter : String) (what : ℕ) → judgedAs event v ≡ oneLine event letter (verdict a b c) → ascii letter ≡ what ∷ [] → what % 256 ≡ what
@@ -41,6 +43,7 @@ module _ (list : List ℕ) (n event : ℕ) (v : Judged) where
     letter-put letter what e is byte other p =
         record {
           so = λ own. rw e (put-verdict list n event what a b c list2 n2 p own letter is byte other);
+          lines = rw e (omega (arith, p .next));
           long = p .long;
           more = omega (arith, p .next);
         }
@@ -81,13 +84,46 @@ module _ (h : Header) (own : List SheetLine) (past : History) (e : Event) where
   listed-other ne =
       flat-append printedLine (listed h own past) _ ∙ rw (ne-eqb (e .kind) satisfactionKind ne, append-nil (judged h past e))
 
+-- ---- a record that is printed has four fields at least, and so six numbers
+
+judged-once : (h : Header) (past : History) (e : Event) → length (judged h past e) ≤ 1
+unfolding judged
+judged-once h past e =
+    byTest (isQuote e && (quote e) .exchange == h .home) (λ a. rw a (omega arith)) (λ a.
+    byTest (isSent e) (λ b. rw (a, b) (omega arith)) (λ b.
+    byTest (isReceived e) (λ c. rw (a, b, c) (omega arith)) (λ c.
+    byTest (isTrade e) (λ d. rw (a, b, c, d) (omega arith)) (λ d. rw (a, b, c, d) (omega arith)))))
+
+module _ (h : Header) (e : Event) (ranged : InRange h e) where
+  fields-are : (k : ℕ) → e .kind ≡ k → length (e .fields) ≡ length (fieldsOf h k)
+  fields-are k q = fields-as-many h _ _ (ranged .fields-fit) ∙ ap (λ (x : ℕ). length (fieldsOf h x)) q
+
+  order-numbers : e .kind ≡ satisfactionKind → 6 ≤ 2 + length (e .fields)
+  unfolding fieldsOf fieldsAmong
+  order-numbers k = omega (arith, fields-are satisfactionKind k)
+
+  judged-numbers : (past : History) → length (judged h past e) * 6 ≤ 2 + length (e .fields)
+  unfolding fieldsOf fieldsAmong
+  judged-numbers past =
+      let one = judged-once h past e in
+      byTest (isQuote e) (λ a. omega (arith, one, fields-are quoteKind (eqb-true (e .kind) quoteKind a))) (λ a.
+      byTest (isSent e) (λ b. omega (arith, one, fields-are sentKind (eqb-true (e .kind) sentKind b))) (λ b.
+      byTest (isReceived e) (λ c. omega (arith, one, fields-are receivedKind (eqb-true (e .kind) receivedKind c))) (λ c.
+      byTest (isTrade e) (λ d. omega (arith, one, fields-are tradeKind (eqb-true (e .kind) tradeKind d))) (λ d.
+      unfold judged in rw (a, b, c, d) (omega arith)))))
+
+-- with k lines more
+few-more : (past : History) (e : Event) (n k n2 : ℕ) → n2 ≡ n + k → n * 6 ≤ numbersIn past → k * 6 ≤ 2 + length (e .fields) → n2 * 6 ≤ numbersIn (e ∷ past)
+unfolding numbersIn
+few-more past e n k n2 next few told = omega arith
+
 -- ---- a record of any kind
 
 module _ (list : List ℕ) (n : ℕ) (q st : List ℕ) (exchanges home : ℕ) (sizes : List ℕ) (sent trades lines event : ℕ) (r : Rec) where
   pub no-room : length list < (n + 1) * 5 → Noted list n q st exchanges home sizes sent trades lines event r list n
   no-room short =
       record {
-        so = λ h e past hd reads held hs es et el ee ln ll listing. absurd (omega arith);
+        so = λ h e past hd reads ranged held hs es et el ee ln ll listing. absurd (omega arith);
         long = refl;
         more = omega arith;
       }
@@ -97,12 +133,12 @@ module _ (list : List ℕ) (n : ℕ) (q st : List ℕ) (exchanges home : ℕ) (s
         → Noted list n q st exchanges home sizes sent trades lines event r list2 n2
     order-noted k p =
         record {
-          so = λ h e past hd reads held hs es et el ee ln ll listing.
+          so = λ h e past hd reads ranged held hs es et el ee ln ll listing.
               record {
                 so = λ own.
                     put-order list n event orderLetter lines 0 0 list2 n2 p own refl
                     ∙ rw (listing .so own, el, ee) (sym (listed-order h own past e (reads .kind ∙ k)));
-                few = omega (arith, listing .few, p .next);
+                few = few-more past e n 1 n2 (p .next) (listing .few) (order-numbers h e ranged (reads .kind ∙ k));
               };
           long = p .long;
           more = omega (arith, p .next);
@@ -112,13 +148,14 @@ module _ (list : List ℕ) (n : ℕ) (q st : List ℕ) (exchanges home : ℕ) (s
         → JudgedPut list n event v list2 n2 → Noted list n q st exchanges home sizes sent trades lines event r list2 n2
     verdict-noted ne v is p =
         record {
-          so = λ h e past hd reads held hs es et el ee ln ll listing.
+          so = λ h e past hd reads ranged held hs es et el ee ln ll listing.
               record {
                 so = λ own.
                     p .so own
                     ∙ rw (listing .so own, ee, is .so h e past hd reads held hs es et)
                     (sym (listed-other h own past e (λ z. ne (sym (reads .kind) ∙ z))));
-                few = omega (arith, listing .few, p .more);
+                few =
+                    few-more past e n _ n2 (p .lines ∙ rw (ee, is .so h e past hd reads held hs es et)) (listing .few) (judged-numbers h e ranged past);
               };
           long = p .long;
           more = p .more;

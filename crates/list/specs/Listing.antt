@@ -11,6 +11,8 @@ use Rattle.rules.specs.Journal.{History, count}
 use Rattle.rules.specs.OwnSheet.{SheetLine}
 use Rattle.rules.specs.GoodSheet.{saidAt}
 use Rattle.rules.specs.PrintedDay.{printedLine, listed}
+use Rattle.rules.proofs.Records.{InRange}
+use Rattle.rules.proofs.Journals.{numbersIn}
 use Rattle.rows.specs.Rows.{Reads}
 use Rattle.rows.specs.declared.Rec.{Rec}
 use Rattle.text.specs.Lines.{lineOf}
@@ -19,17 +21,21 @@ use Rattle.orders.specs.Orders.{Heads}
 use Rattle.market.specs.Judged.{judgedAs}
 use Rattle.market.specs.declared.Judged.{Judged}
 
--- no journal has more records: each takes four bytes at least
+-- no journal has more records: each is two numbers at least, and no number takes less than a byte
+abbrev pub mostRecords : ℕ
+mostRecords = 16_384
+
+-- no journal has as many lines: each is told by a record of six numbers at least
 abbrev pub mostRows : ℕ
-mostRows = 8_192
+mostRows = 5_462
 
 -- the words of a list with room for them
 abbrev pub listWords : ℕ
-listWords = 40_960
+listWords = 27_310
 
 -- the most that so many rows take as text: 46 bytes each
 abbrev pub mostText : ℕ
-mostText = 376_832
+mostText = 251_252
 
 -- ---- rows as text
 
@@ -60,7 +66,8 @@ textFrom own list n = flatMap (rowText own list) (below n)
 
 pub record Listing (h : Header) (past : History) (list : List ℕ) (n : ℕ) : Type 0 where
   pub so : (own : List SheetLine) → textFrom own list n ≡ flatMap printedLine (listed h own past)
-  pub few : n ≤ length past
+  -- a line is told by a record of six numbers at least
+  pub few : n * 6 ≤ numbersIn past
 
 -- ---- one row more
 
@@ -76,13 +83,14 @@ pub record RowPut (list : List ℕ) (n event what a b c : ℕ) (list2 : List ℕ
 
 pub record JudgedPut (list : List ℕ) (n event : ℕ) (v : Judged) (list2 : List ℕ) (n2 : ℕ) : Type 0 where
   pub so : (own : List SheetLine) → textFrom own list2 n2 ≡ textFrom own list n ++ flatMap printedLine (judgedAs event v)
+  pub lines : n2 ≡ n + length (judgedAs event v)
   pub long : length list2 ≡ length list
   pub more : n2 ≤ n + 1
 
 -- ---- one record, of any kind
 
 pub record Noted (list : List ℕ) (n : ℕ) (q st : List ℕ) (exchanges home : ℕ) (sizes : List ℕ) (sent trades lines event : ℕ) (r : Rec) (list2 : List ℕ) (n2 : ℕ) : Type 0 where
-  pub so : (h : Header) (e : Event) (past : History) → Heads h exchanges home sizes → Reads e r → Quoted past q → Statuses past st
+  pub so : (h : Header) (e : Event) (past : History) → Heads h exchanges home sizes → Reads e r → InRange h e → Quoted past q → Statuses past st
       → sent ≡ count isSent past → trades ≡ count isTrade past → lines ≡ count isSatisfaction past → event ≡ length past
       → n < mostRows → length list ≡ listWords → Listing h past list n → Listing h (e ∷ past) list2 n2
   pub long : length list2 ≡ length list

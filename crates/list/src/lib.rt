@@ -5,7 +5,7 @@ ghost use lib.ListN.{length};
 ghost use Rattle.rules.specs.Limits.{mostTrades, mostSentOrders, mostSatisfactionOrders};
 ghost use Rattle.rows.specs.Rows.{RecOk};
 ghost use Rattle.orders.specs.Orders.{Headed};
-ghost use Rattle.list.specs.Listing.{mostRows, RowPut, JudgedPut, Noted};
+ghost use Rattle.list.specs.Listing.{mostRecords, RowPut, JudgedPut, Noted};
 use market::Judged;
 use rows::Numbers;
 use rows::Rec;
@@ -28,8 +28,8 @@ impl Row {
 
     pub const WORDS: usize = 5;
 
-    // No journal has more records: each takes four bytes at least.
-    pub const MOST: usize = 8192;
+    // No journal has as many lines: each is told by a record of six numbers at least.
+    pub const MOST: usize = 5462;
 }
 
 fn put_shown(list: &mut [u32], n: usize, event: u32, what: u8, a: u32, b: u32, c: u32) -> usize
@@ -73,7 +73,7 @@ pub fn note(
 ) -> usize
     requires { ⌜ Headed (seat .exchanges) (seat .home) × RecOk (seat .exchanges) (seat .home) r ⌝ }
     requires { ⌜ (before .orders ≤ mostSentOrders) × (before .trades ≤ mostTrades) × (before .lines ≤ mostSatisfactionOrders) ⌝ }
-    requires { ⌜ (n ≤ mostRows) × (event ≤ mostRows) ⌝ }
+    requires { ⌜ (n ≤ mostRecords) × (event ≤ mostRecords) ⌝ }
     ensures { λ k. ⌜ Noted (now (list .entry)) n (now (q .entry)) (now (st .entry)) (seat .exchanges) (seat .home) (now (sizes .entry)) (before .orders) (before .trades) (before .lines) event r (now (list .exit)) k ⌝ }
 {
     if list.len() < (n + 1) * Row::WORDS {

@@ -1,5 +1,5 @@
 -- What the rows of one trade say the reason on a Satisfaction Order, its customer contracts and its claim.
-use mathlib.Core.Path.{_≡_, refl}
+use mathlib.Core.Path.{_≡_, refl, sym}
 use mathlib.Core.Bool.{Bool, true, false, Bool·not-not}
 use mathlib.Core.List.{List}
 use Prim.Native.Nat.{ℕ, _+_}
@@ -7,11 +7,11 @@ use lib.ListN.{getD}
 use Rattle.rules.specs.Basics.{if_then_else_, _==_, Row, _when_, _¦_, firstOf}
 use Rattle.rules.specs.Header.{Header}
 use Rattle.rules.specs.Record.{buy, sell, Event, trade, satisfaction}
-use Rattle.rules.specs.Journal.{History}
+use Rattle.rules.specs.Journal.{History, closingBegun}
 use Rattle.rules.specs.Prices.{standing, statusOf}
 use Rattle.rules.specs.Verdicts.{neither, theBid, through, sideThrough, isBlock}
 use Rattle.rules.specs.Reasons.{Case, senderQuote, senderSide, customers, hadSent, report, timeToClaim, lateBy, required, reason}
-use Rattle.rules.specs.Due.{claim}
+use Rattle.rules.specs.Due.{leastOfThree, claim}
 use Rattle.rules.proofs.Tests.{bit-is}
 use Rattle.trades.specs.Trades.{priceOn, customersOn, excusingSide, excuseAt, snap, snapAt, tradeRow}
 use Rattle.reasons.specs.declared.Facts.{Facts}
@@ -29,6 +29,10 @@ unasked false had rest = refl
 size-word : (h : Header) (e : Event) (before : History) → (trade e) .size ≡ getD (tradeRow h e before) 1 0
 unfolding tradeRow
 size-word h e before = refl
+
+closing-word : (h : Header) (e : Event) (before : History) → closingBegun before ≡ (getD (tradeRow h e before) 7 0 == 1)
+unfolding tradeRow
+closing-word h e before = sym (bit-is (closingBegun before))
 
 -- what the tables of the trade say
 abbrev pub factsIn : Header → Case → ℕ → Facts
@@ -65,6 +69,6 @@ module _ (h : Header) (k : Case) (y : ℕ) (es : (satisfaction (k .claim)) .send
   customers-words = rw es
 
   pub claim-words : (size : ℕ) → (satisfaction (k .claim)) .size ≡ size
-      → claim h k ≡ claimOf (reason h k) size (getD (snapAt (k .trade) (k .before) y) 2 0) (getD (tradeRow h (k .trade) (k .before)) 1 0)
-  unfolding claim claimOf
-  claim-words size ez = rw (ez, customers-words, size-word h (k .trade) (k .before))
+      → claim h k ≡ claimOf (reason h k) size (getD (snapAt (k .trade) (k .before) y) 2 0) (getD (tradeRow h (k .trade) (k .before)) 1 0) (getD (tradeRow h (k .trade) (k .before)) 7 0)
+  unfolding claim claimOf leastOfThree
+  claim-words size ez = rw (ez, customers-words, size-word h (k .trade) (k .before), closing-word h (k .trade) (k .before))

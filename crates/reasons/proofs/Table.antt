@@ -11,6 +11,7 @@ use Rattle.rules.specs.Limits.{closingMinutes}
 use Rattle.rules.specs.Record.{notFirm, rotation, complexTrade}
 use Rattle.rules.specs.Verdicts.{neither}
 use Rattle.rules.specs.Reasons.{threeMinutes, oneMinute}
+use Rattle.rules.specs.Due.{mostAtTheClose, limited, leastOf}
 use Rattle.rules.proofs.Tests.{byTest, and-left, and-right}
 use Rattle.reasons.specs.declared.Facts.{Facts}
 use Rattle.reasons.specs.Reasons.{laterThan, lateAt, requiredOf, byTrade, byTime, byPrice, tradeReason, lateReason, priceReason, reasonOf, claimOf}
@@ -40,16 +41,28 @@ module _ (block price there : ℕ) where
   unfolding requiredOf
   required-otherwise p = rw (ne-eqb block 1 p)
 
-module _ (why size customers traded : ℕ) where
-  pub claim-is-least : why ≡ 0 → (a b : ℕ) → a ≡ min customers traded → b ≡ min size a → b ≡ claimOf why size customers traded
-  unfolding claimOf
-  claim-is-least p a b ea eb = rw (eq-eqb why 0 p) (eb ∙ ap (min size) ea)
+pub least-in-turn : (size customers traded a b : ℕ) → a ≡ min customers traded → b ≡ min size a → b ≡ leastOf size customers traded
+least-in-turn size customers traded a b ea eb = eb ∙ ap (min size) ea
 
-  pub no-claim : (why ≡ 0 → ⊥) → 0 ≡ claimOf why size customers traded
+module _ (closing n : ℕ) where
+  pub limited-in-window : closing ≡ 1 → (b : ℕ) → b ≡ min n mostAtTheClose → b ≡ limited (closing == 1) n
+  unfolding limited
+  limited-in-window p b e = rw (eq-eqb closing 1 p) e
+
+  pub not-limited : (closing ≡ 1 → ⊥) → n ≡ limited (closing == 1) n
+  unfolding limited
+  not-limited p = rw (ne-eqb closing 1 p)
+
+module _ (why size customers traded closing : ℕ) where
+  pub claim-is-least : why ≡ 0 → (a b : ℕ) → a ≡ leastOf size customers traded → b ≡ limited (closing == 1) a → b ≡ claimOf why size customers traded closing
+  unfolding claimOf
+  claim-is-least p a b ea eb = rw (eq-eqb why 0 p) (eb ∙ ap (limited (closing == 1)) ea)
+
+  pub no-claim : (why ≡ 0 → ⊥) → 0 ≡ claimOf why size customers traded closing
   unfolding claimOf
   no-claim p = rw (ne-eqb why 0 p)
 
-pub ruleset word-laws = (later-by-words, late-in-closing-minutes, late-before, required-of-block, required-otherwise, claim-is-least, no-claim)
+pub ruleset word-laws = (later-by-words, late-in-closing-minutes, late-before, required-of-block, required-otherwise, least-in-turn, limited-in-window, not-limited, claim-is-least, no-claim)
 
 module _ (side excused status home initiator complex : ℕ) where
   pub reason-10 : side ≡ neither → 10 ≡ tradeReason side excused status home initiator complex

@@ -1,12 +1,13 @@
 -- "Reasons on a Satisfaction Order, first that holds", over the numbers that its trade kept.
 use mathlib.Core.Bool.{Bool, not, _&&_}
 use mathlib.Core.List.{List, [], _++_}
-use Prim.Native.Nat.{ℕ, _+_, _-_, min}
+use Prim.Native.Nat.{ℕ, _+_, _-_}
 use Rattle.rules.specs.Basics.{if_then_else_, _==_, _atLeast_, _moreThan_, Row, _when_, _¦_, firstOf}
 use Rattle.rules.specs.Limits.{closingMinutes}
 use Rattle.rules.specs.Record.{notFirm, rotation, complexTrade}
 use Rattle.rules.specs.Verdicts.{neither}
 use Rattle.rules.specs.Reasons.{threeMinutes, oneMinute}
+use Rattle.rules.specs.Due.{limited, leastOf}
 use Rattle.reasons.specs.declared.Facts.{Facts}
 
 -- "received later than the report plus" some time
@@ -68,6 +69,6 @@ reasonOf k =
     ++ (byTime (k .initiator) (k .report) (k .close) (k .time)
     ++ byPrice (k .asked) (k .price) (k .block) (k .there) (k .customers)))
 
--- "0 for a reason other than 0; else the least of order size, customer contracts and trade size"
-unfoldable pub claimOf : ℕ → ℕ → ℕ → ℕ → ℕ
-claimOf why size contracts traded = if why == 0 then min size (min contracts traded) else 0
+-- "0 for a reason other than 0; else the least of" the three, and at most 10 where the trade kept that the closing window had begun
+unfoldable pub claimOf : ℕ → ℕ → ℕ → ℕ → ℕ → ℕ
+claimOf why size contracts traded closing = if why == 0 then limited (closing == 1) (leastOf size contracts traded) else 0

@@ -2,7 +2,9 @@
 ghost use mathlib.Core.Path.{_≡_};
 ghost use mathlib.Core.Bool.{_&&_};
 ghost use Prim.Native.Nat.{_≤_};
+ghost use Rattle.rules.specs.Basics.{_==_};
 ghost use Rattle.rules.specs.Reasons.{threeMinutes};
+ghost use Rattle.rules.specs.Due.{leastOf, limited};
 ghost use Rattle.reasons.specs.Reasons.{laterThan, lateAt, requiredOf, tradeReason, lateReason, priceReason, reasonOf, claimOf};
 use prices::Side;
 use rows::Closing;
@@ -154,12 +156,37 @@ pub fn reason_of(k: Facts) -> u32
     price_reason(k.asked, k.price, k.block, k.there, k.customers)
 }
 
-// "0 for a reason other than 0; else the least of order size, customer contracts and trade size"
-pub fn claim_of(why: u32, size: u32, customers: u32, traded: u32) -> u32
-    ensures { λ r. ⌜ r ≡ claimOf why size customers traded ⌝ }
+// "the least of order size, customer contracts and trade size"
+pub fn least_of(size: u32, customers: u32, traded: u32) -> u32
+    ensures { λ r. ⌜ r ≡ leastOf size customers traded ⌝ }
+{
+    rows::lesser(size, rows::lesser(customers, traded))
+}
+
+// A claim's own limit.
+pub struct Claim;
+
+impl Claim {
+    // "For a trade after it, each claim is also at most 10": after the closing record.
+    pub const MOST_AT_THE_CLOSE: u32 = 10;
+}
+
+// What is left of a claim for a trade that was made in the closing window (1), or before it.
+fn limited(closing: u32, claim: u32) -> u32
+    ensures { λ r. ⌜ r ≡ limited (closing == 1) claim ⌝ }
+{
+    if closing == 1 {
+        return rows::lesser(claim, Claim::MOST_AT_THE_CLOSE);
+    }
+    claim
+}
+
+// "0 for a reason other than 0; else the least of" the three
+pub fn claim_of(why: u32, size: u32, customers: u32, traded: u32, closing: u32) -> u32
+    ensures { λ r. ⌜ r ≡ claimOf why size customers traded closing ⌝ }
 {
     if why == 0 {
-        return rows::lesser(size, rows::lesser(customers, traded));
+        return limited(closing, least_of(size, customers, traded));
     }
     0
 }

@@ -7,6 +7,7 @@ pub mod Records
 pub mod Journals
 pub mod Totals
 pub mod Lines
+pub mod Closing
 pub mod TradeLines
 pub mod Giving
 pub mod OwnSheet

@@ -11,9 +11,9 @@ use Rattle.rules.specs.Basics.{if_then_else_, _==_, _atMost_, _lessThan_
 use Rattle.rules.specs.Limits.{mostContracts}
 use Rattle.rules.specs.Header.{Header}
 use Rattle.rules.specs.Record.{Event, Field, contracts, fits, fitAll, fieldsAmong, fieldsOf, field, trade, satisfaction, isTrade, isResponse, isSatisfaction, satisfactionKind}
-use Rattle.rules.specs.Journal.{History, count, satisfactionBelongs, belongs, Journal, journal}
+use Rattle.rules.specs.Journal.{History, count, closingBegun, satisfactionBelongs, belongs, Journal, journal}
 use Rattle.rules.specs.Reasons.{Case, caseOf, customers, reason}
-use Rattle.rules.specs.Due.{claim, Line, lineOf, linesOf, lines, ofTrade, claimsOf, dueOf, due}
+use Rattle.rules.specs.Due.{limited, leastOfThree, claim, Line, lineOf, linesOf, lines, ofTrade, claimsOf, dueOf, due}
 use Rattle.rules.proofs.Tests.{byTest, and-left, and-right, at-end, keep-sub, facts}
 use Rattle.rules.proofs.Histories.{count-cons, count-skip, count-grows}
 use Rattle.rules.proofs.Records.{InRange}
@@ -42,16 +42,22 @@ reason-at-most-13 h k = leb-true _ _ (firstOf-among (λ n. n atMost 13) refl _ r
 
 -- ---- claims: "the least of order size, customer contracts and trade size"
 
+pub limited-at-most : (closing : Bool) (n : ℕ) → limited closing n ≤ n
+unfolding limited
+limited-at-most true n = omega arith
+limited-at-most false n = omega arith
+
 pub record ClaimWithin (h : Header) (k : Case) : Type 0 where
   pub order-size : claim h k ≤ (satisfaction (k .claim)) .size
   pub customer-contracts : claim h k ≤ customers k
   pub trade-size : claim h k ≤ (trade (k .trade)) .size
 
 pub claim-at-most : (h : Header) (k : Case) → ClaimWithin h k
-unfolding claim
+unfolding claim leastOfThree
 claim-at-most h k =
+    let least = limited-at-most (closingBegun (k .before)) (leastOfThree k) in
     byTest (reason h k == 0)
-    (λ r. record { order-size = rw r (omega arith); customer-contracts = rw r (omega arith); trade-size = rw r (omega arith) })
+    (λ r. record { order-size = rw r (omega (arith, least)); customer-contracts = rw r (omega (arith, least)); trade-size = rw r (omega (arith, least)) })
     (λ r. record { order-size = rw r (omega arith); customer-contracts = rw r (omega arith); trade-size = rw r (omega arith) })
 
 pub no-claim-with-a-reason : (h : Header) (k : Case) → (reason h k == 0) ≡ false → claim h k ≡ 0
@@ -74,7 +80,7 @@ satisfaction-fits h e i s =
     let t = fits-at h (fieldsOf h satisfactionKind) (e .fields) (subst (λ (n : ℕ). fitAll h (fieldsOf h n) (e .fields) ≡ true) k (i .fields-fit)) 3 (omega arith) in
     leb-true _ _ (and-right (1 atMost field e 3) _ (and-left (within 1 mostContracts (field e 3)) _ t))
 
-satisfaction-known : (past : History) (e : Event) → belongs past e ≡ true → isSatisfaction e ≡ true → (satisfaction e) .trade < count isTrade past
+pub satisfaction-known : (past : History) (e : Event) → belongs past e ≡ true → isSatisfaction e ≡ true → (satisfaction e) .trade < count isTrade past
 unfolding belongs satisfactionBelongs
 satisfaction-known past e b s =
     let k = eqb-true (e .kind) satisfactionKind s in

@@ -5,14 +5,30 @@ use mathlib.Core.List.{List, [], _∷_, _++_, map}
 use Rattle.rules.specs.Basics.{if_then_else_, _==_, _atLeast_, _lessThan_, _moreThan_, any, all, keep, sum}
 use Rattle.rules.specs.Header.{Header, automatic}
 use Rattle.rules.specs.Record.{Event, Trade, trade, satisfaction, isSatisfaction}
-use Rattle.rules.specs.Journal.{History, Journal, count, tradeAt, beforeTrade}
+use Rattle.rules.specs.Journal.{History, Journal, count, tradeAt, beforeTrade, closingBegun}
 use Rattle.rules.specs.Verdicts.{throughs}
 use Rattle.rules.specs.Reasons.{Case, caseOf, customers, reason}
 
--- "0 for a reason other than 0; else the least of order size, customer contracts and trade size"
+-- "the least of order size, customer contracts and trade size"
+abbrev pub leastOf : ℕ → ℕ → ℕ → ℕ
+leastOf size contracts traded = min size (min contracts traded)
+
+unfoldable pub leastOfThree : Case → ℕ
+leastOfThree k = leastOf ((satisfaction (k .claim)) .size) (customers k) ((trade (k .trade)) .size)
+
+-- Document 02, a: "Plan Amendment No. 4, described in source document 001: for trade-throughs in the last few minutes the
+-- liability is limited to 10 contracts per exchange". The rule is 6.94(a)(2)(ii)(C).
+abbrev pub mostAtTheClose : ℕ
+mostAtTheClose = 10
+
+-- "each claim is also at most 10", where the closing window has begun
+unfoldable pub limited : Bool → ℕ → ℕ
+limited closing n = if closing then min n mostAtTheClose else n
+
+-- "0 for a reason other than 0; else the least of" the three. "For a trade after it": after the closing record in the
+-- journal's order, also in the same millisecond; so it is asked of the history before the trade.
 unfoldable pub claim : Header → Case → ℕ
-claim h k =
-    if reason h k == 0 then min ((satisfaction (k .claim)) .size) (min (customers k) ((trade (k .trade)) .size)) else 0
+claim h k = if reason h k == 0 then limited (closingBegun (k .before)) (leastOfThree k) else 0
 
 -- ---- what the journal says of one Satisfaction Order. "Lines are counted from 0."
 

@@ -25,7 +25,8 @@ fieldOutOfRange = 5
 abbrev pub quoteUnfit : ℕ
 quoteUnfit = 6
 
--- "unknown trade or sent order, a second response, a fill above the order, a second Satisfaction Order of one exchange for one trade"
+-- "unknown trade or sent order, a second response, a fill above the order, a second Satisfaction Order of one exchange for one trade";
+-- document 02, a: "a second kind 9"
 abbrev pub doesNotBelong : ℕ
 doesNotBelong = 7
 

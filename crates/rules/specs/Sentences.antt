@@ -1,16 +1,17 @@
--- The paper's sentences about one named input, a row each: what the definitions say beside what the sentence says.
+-- The papers' sentences about one named input, a row each: what the definitions say beside what the sentence says.
 -- proofs/Sentences.antt shows that each row's two sides are the same.
 use Prim.Native.Nat.{ℕ}
-use mathlib.Core.List.{List, [], _∷_}
+use mathlib.Core.List.{List, [], _∷_, _++_}
 use lib.ListN.{take, drop, replicate}
 use Rattle.rules.specs.Basics.{Answer, refused, ok}
 use Rattle.rules.specs.Limits.{mostJournalBytes}
 use Rattle.rules.specs.Record.{Entry, entryBytes}
 use Rattle.rules.specs.Journal.{Journal, journal}
+use Rattle.rules.specs.Due.{lines, ofTrade, claimsOf, due}
 use Rattle.rules.specs.OwnSheet.{ownSheet}
 use Rattle.rules.specs.SheetCheck.{checkSheet}
-use Rattle.rules.specs.PrintedDay.{printedDay, ascii}
-use Rattle.rules.specs.Examples.{Example, example, dayD}
+use Rattle.rules.specs.PrintedDay.{firstLine, printedDay, ascii}
+use Rattle.rules.specs.Examples.{Example, example, written, bids, trades, claims, prints, only, dayD}
 
 -- a refusal as its number and place, anything else as nothing
 abbrev pub refusal : {A : Type 0} → Answer A → List ℕ
@@ -27,6 +28,29 @@ headerD = take 10 dayD
 
 abbrev pub quoteD : Entry
 quoteD = record { kind = 1; elapsed = 1_000; fields = 2 ∷ 0 ∷ 110 ∷ 20 ∷ 15 ∷ 120 ∷ 20 ∷ 0 ∷ [] }
+
+-- ---- document 02, a. Firm sizes of 10, exchanges 2 and 3 bid 110 with 30 customer contracts each, home trades at 100, and each
+-- of the two claims 30; the closing record comes before the trade or after it, all at the same millisecond.
+
+abbrev pub closes : List ℕ
+closes = 9 ∷ 0 ∷ []
+
+abbrev pub twoBids : List (List ℕ) → List (List ℕ)
+twoBids more = bids 2 110 30 ∷ bids 3 110 30 ∷ more
+
+abbrev pub twoClaims : List (List ℕ)
+twoClaims = claims 0 2 110 30 ∷ claims 0 3 110 30 ∷ []
+
+abbrev pub tradedThenClosing : ℕ → List (List ℕ)
+tradedThenClosing size = twoBids (trades 0 100 size 0 ∷ closes ∷ twoClaims)
+
+abbrev pub closingThenTraded : ℕ → List (List ℕ)
+closingThenTraded size = twoBids (closes ∷ trades 0 100 size 0 ∷ twoClaims)
+
+-- the claims of trade 0, and its due total
+abbrev pub claimed : Answer Journal → List ℕ
+claimed (refused n p) = []
+claimed (ok j) = claimsOf (ofTrade 0 (lines j)) ++ (due j 0 ∷ [])
 
 unfoldable pub sentences : List Example
 sentences =
@@ -49,4 +73,19 @@ sentences =
     ∷ example 13 (refusal (checkSheet dayD (0 ∷ 11 ∷ 9 ∷ []))) (25 ∷ 0 ∷ [])
     -- "Writing a record": the quote of Day D is its eleven bytes
     ∷ example 14 (entryBytes quoteD) (take 11 (drop 10 dayD))
+    -- "For a trade after it, each claim is also at most 10, and due totals follow."
+    ∷ prints 15 "event what a b c\n2 T 0 2 0\n4 F 0 15 15\n5 F 0 15 15\n" (tradedThenClosing 30)
+    ∷ example 16 (claimed (journal (written (tradedThenClosing 30)))) (30 ∷ 30 ∷ 30 ∷ [])
+    ∷ prints 17 "event what a b c\n3 T 0 2 0\n4 F 0 10 20\n5 F 0 10 20\n" (closingThenTraded 30)
+    ∷ example 18 (claimed (journal (written (closingThenTraded 30)))) (10 ∷ 10 ∷ 20 ∷ [])
+    ∷ prints 19 "event what a b c\n3 T 0 2 0\n4 F 0 6 24\n5 F 0 6 24\n" (closingThenTraded 12)
+    ∷ example 20 (claimed (journal (written (closingThenTraded 12)))) (10 ∷ 10 ∷ 12 ∷ [])
+    ∷ only 21 ((6 ∷ 6 ∷ []) ∷ []) (closingThenTraded 12)
+    -- "Record kind 9, without fields": two bytes are a record, and it prints nothing
+    ∷ example 22 (printedDay (headerD ++ closes)) firstLine
+    -- "a second kind 9 is 7"
+    ∷ example 23 (refusal (journal (headerD ++ closes ++ closes))) (7 ∷ 12 ∷ [])
+    -- kinds 8 and 10 are unknown
+    ∷ example 24 (refusal (journal (headerD ++ (8 ∷ 0 ∷ [])))) (4 ∷ 10 ∷ [])
+    ∷ example 25 (refusal (journal (headerD ++ (10 ∷ 0 ∷ [])))) (4 ∷ 10 ∷ [])
     ∷ []

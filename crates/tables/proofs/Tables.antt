@@ -23,22 +23,22 @@ use Rattle.claims.proofs.Due as due-laws
 use Rattle.rows.specs.declared.Numbers.{Numbers}
 use Rattle.tables.specs.Tables.{Holds, Orderly, Placed, TablesStep}
 
-pub all-kept : (r : Rec) (home exchanges close : ℕ) (sizes : List ℕ) (block : Bool) (q st t tr sn cl : List ℕ) (c : Numbers)
+pub all-kept : (r : Rec) (home exchanges close : ℕ) (sizes : List ℕ) (block : Bool) (q st t tr sn cl : List ℕ) (c : Numbers) (closing : Bool)
     (q2 st2 t2 ch2 tr2 sn2 cl2 : List ℕ) (orders trades lines : ℕ)
     → BlockFound q exchanges r block → ClaimsStep r home exchanges close tr sn (c .trades) cl (c .lines) cl2 lines
-    → TradesStep r home exchanges sizes block q st t (c .orders) tr sn (c .trades) tr2 sn2 trades
+    → TradesStep r home exchanges sizes block closing q st t (c .orders) tr sn (c .trades) tr2 sn2 trades
     → ExcusesStep r t (c .orders) t2 ch2 orders → QuotesStep r q q2 → StatusesStep r st st2
-    → TablesStep r home exchanges close sizes q st t tr sn cl c q2 st2 t2 ch2 tr2 sn2 cl2
+    → TablesStep r home exchanges close sizes q st t tr sn cl c closing q2 st2 t2 ch2 tr2 sn2 cl2
     (record { orders = orders; trades = trades; lines = lines })
-all-kept r home exchanges close sizes block q st t tr sn cl c q2 st2 t2 ch2 tr2 sn2 cl2 orders trades lines found by-claim by-trade by-order by-quote by-status =
+all-kept r home exchanges close sizes block q st t tr sn cl c closing q2 st2 t2 ch2 tr2 sn2 cl2 orders trades lines found by-claim by-trade by-order by-quote by-status =
     record {
       orderly = record { chains = by-order .chains; filing = by-claim .filing; few = by-trade .few };
       so =
-          λ h e past is ec rd held. record {
+          λ h e past is ec rd closes held. record {
             quoted = by-quote .so e past rd (held .quoted);
             statuses = by-status .so e past rd (held .statuses);
             excused = by-order .so e past rd (held .excused);
-            traded = by-trade .so h e past is rd (found .so h e past (is .exchanges) rd (held .quoted)) (held .quoted) (held .statuses) (held .excused) (held .traded);
+            traded = by-trade .so h e past is rd (found .so h e past (is .exchanges) rd (held .quoted)) closes (held .quoted) (held .statuses) (held .excused) (held .traded);
             lined = by-claim .so h sizes e past is ec rd (held .traded) (held .lined);
           };
     }

@@ -1,11 +1,12 @@
 -- All tables at once: what they say of a history, and what a record of any kind does to them.
 use mathlib.Core.Path.{_≡_}
+use mathlib.Core.Bool.{Bool}
 use mathlib.Core.List.{List, _∷_}
 use Prim.Native.Nat.{ℕ, _≤_}
 use Rattle.rules.specs.Limits.{mostTrades}
 use Rattle.rules.specs.Header.{Header}
 use Rattle.rules.specs.Record.{Event}
-use Rattle.rules.specs.Journal.{History}
+use Rattle.rules.specs.Journal.{History, closingBegun}
 use Rattle.rows.specs.Rows.{Reads}
 use Rattle.rows.specs.declared.Rec.{Rec}
 use Rattle.quotes.specs.Tables as quotes
@@ -35,8 +36,8 @@ pub record Placed (r : Rec) (cl : List ℕ) (exchanges : ℕ) (c : Numbers) : Ty
   pub trade : trades.Placed r (c .trades)
   pub claim : claims.Placed r cl (c .trades) exchanges (c .lines)
 
-pub record TablesStep (r : Rec) (home exchanges close : ℕ) (sizes : List ℕ) (q st t tr sn cl : List ℕ) (c : Numbers)
+pub record TablesStep (r : Rec) (home exchanges close : ℕ) (sizes : List ℕ) (q st t tr sn cl : List ℕ) (c : Numbers) (closing : Bool)
     (q2 st2 t2 ch2 tr2 sn2 cl2 : List ℕ) (c2 : Numbers) : Type 0 where
   pub orderly : Orderly t2 ch2 cl2 c2
-  pub so : (h : Header) (e : Event) (past : History) → Heads h exchanges home sizes → h .close ≡ close → Reads e r
+  pub so : (h : Header) (e : Event) (past : History) → Heads h exchanges home sizes → h .close ≡ close → Reads e r → closing ≡ closingBegun past
       → Holds h past q st t tr sn cl c → Holds h (e ∷ past) q2 st2 t2 tr2 sn2 cl2 c2

@@ -6,7 +6,7 @@ use rows::Rec;
 use rows::Seat;
 
 // What a record reads of the moment before it is read before it is written: a Satisfaction Order's trade, then a trade's quotes,
-// statuses and orders.
+// statuses and orders. `closing`: whether the closing window has begun before this record.
 pub fn keep(
     q: &mut [u32; 2048],
     st: &mut [u32; 8],
@@ -16,6 +16,7 @@ pub fn keep(
     sn: &mut [u32; 8192],
     cl: &mut [u32; 6144],
     c: Numbers,
+    closing: bool,
     seat: Seat,
     sizes: &[u32; 16],
     r: Rec,
@@ -23,12 +24,11 @@ pub fn keep(
     requires { ⌜ Headed (seat .exchanges) (seat .home) ⌝ }
     requires { ⌜ Placed r (now cl) (seat .exchanges) c ⌝ }
     requires { ⌜ Orderly (now t) (now ch) (now cl) c ⌝ }
-    ensures { λ d. ⌜ TablesStep r (seat .home) (seat .exchanges) (seat .close) (now (sizes .entry)) (now (q .entry)) (now (st .entry)) (now (t .entry)) (now (tr .entry)) (now (sn .entry)) (now (cl .entry)) c (now (q .exit)) (now (st .exit)) (now (t .exit)) (now (ch .exit)) (now (tr .exit)) (now (sn .exit)) (now (cl .exit)) d ⌝ }
+    ensures { λ d. ⌜ TablesStep r (seat .home) (seat .exchanges) (seat .close) (now (sizes .entry)) (now (q .entry)) (now (st .entry)) (now (t .entry)) (now (tr .entry)) (now (sn .entry)) (now (cl .entry)) c closing (now (q .exit)) (now (st .exit)) (now (t .exit)) (now (ch .exit)) (now (tr .exit)) (now (sn .exit)) (now (cl .exit)) d ⌝ }
 {
     let block = through::found_block(q, seat.exchanges, r);
     let lines = claims::keep_claim(cl, tr, sn, c.lines, c.trades, seat, r);
-    let n = c.trades;
-    let trades = trades::keep_trade(tr, sn, n, seat, sizes, q, st, t, ch, c.orders, block, r);
+    let trades = trades::keep_trade(tr, sn, c, seat, sizes, q, st, t, ch, block, closing, r);
     let orders = excuses::keep_excuses(t, ch, c.orders, r);
     quotes::keep_quote(q, r);
     quotes::keep_status(st, r);

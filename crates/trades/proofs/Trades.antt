@@ -2,15 +2,16 @@
 use mathlib.Core.Path.{_≡_, refl, sym, ap, _∙_}
 use mathlib.Core.Bool.{Bool, true}
 use mathlib.Core.List.{List, [], _∷_}
-use Prim.Native.Nat.{ℕ, zero, suc, _+_, _*_, _<_, _≤_}
+use Prim.Native.Nat.{ℕ, _+_, _*_, _<_, _≤_}
 use native.Mathlib.Omega.{arith}
 use lib.Dec.{eqb}
 use lib.ListN.{getD, length}
 use borrow.Author.Tests.{eq-eqb, ne-eqb, eqb-true, eqb-false}
 use Rattle.rules.specs.Basics.{keep, bit}
+use Rattle.rules.specs.Limits.{mostTrades}
 use Rattle.rules.specs.Header.{Header}
 use Rattle.rules.specs.Record.{Event, trade, isTrade, tradeKind}
-use Rattle.rules.specs.Journal.{History, count, tradeAt, beforeTrade}
+use Rattle.rules.specs.Journal.{History, count, tradeAt, beforeTrade, closingBegun}
 use Rattle.rules.specs.Verdicts.{sideThrough, isBlock}
 use Rattle.rules.specs.Due.{capped}
 use Rattle.rules.proofs.Tests.{byTest}
@@ -36,37 +37,26 @@ module _ (h : Header) (past : History) (tr sn : List ℕ) (n : ℕ) (e : Event) 
 
 -- ---- a trade
 
-first-seven : (a b c d e f g k : ℕ) (i : ℕ) → i < 7
-    → getD (a ∷ b ∷ c ∷ d ∷ e ∷ f ∷ g ∷ k ∷ []) i 0 ≡ getD (a ∷ b ∷ c ∷ d ∷ e ∷ f ∷ g ∷ []) i 0
-first-seven a b c d e f g k zero h = refl
-first-seven a b c d e f g k (suc zero) h = refl
-first-seven a b c d e f g k (suc (suc zero)) h = refl
-first-seven a b c d e f g k (suc (suc (suc zero))) h = refl
-first-seven a b c d e f g k (suc (suc (suc (suc zero)))) h = refl
-first-seven a b c d e f g k (suc (suc (suc (suc (suc zero))))) h = refl
-first-seven a b c d e f g k (suc (suc (suc (suc (suc (suc zero)))))) h = refl
-first-seven a b c d e f g k (suc (suc (suc (suc (suc (suc (suc i))))))) h = let z : ⊥ = omega arith in elim z [ ]
-
-row-is : (r : Rec) (h : Header) (e : Event) (past : History) (b c : Bool) → Reads e r → b ≡ isBlock h past (trade e) → c ≡ capped h past (trade e)
-    → (word r 1 ∷ word r 2 ∷ bit b ∷ word r 4 ∷ word r 5 ∷ (r .time + word r 6) ∷ bit c ∷ []) ≡ tradeRow h e past
+row-is : (r : Rec) (h : Header) (e : Event) (past : History) (b c d : Bool) → Reads e r → b ≡ isBlock h past (trade e) → c ≡ capped h past (trade e) → d ≡ closingBegun past
+    → (word r 1 ∷ word r 2 ∷ bit b ∷ word r 4 ∷ word r 5 ∷ (r .time + word r 6) ∷ bit c ∷ bit d ∷ []) ≡ tradeRow h e past
 unfolding tradeRow
-row-is r h e past b c rd eb ec =
-    rw (rd .fields 1, rd .fields 2, rd .fields 4, rd .fields 5, rd .fields 6, ← rd .time, eb, ec)
+row-is r h e past b c d rd eb ec ed =
+    rw (rd .fields 1, rd .fields 2, rd .fields 4, rd .fields 5, rd .fields 6, ← rd .time, eb, ec, ed)
 
 side-is : (past : History) (e : Event) (y : ℕ) → getD (snapAt e past y) 0 0 ≡ sideThrough past (trade e) (y + 1)
 unfolding snap sideThrough
 side-is past e y = refl
 
-module _ (r : Rec) (home exchanges : ℕ) (sizes : List ℕ) (block : Bool) (q st t : List ℕ) (orders : ℕ) (tr sn : List ℕ) (n : ℕ) where
+module _ (r : Rec) (home exchanges : ℕ) (sizes : List ℕ) (block closing : Bool) (q st t : List ℕ) (orders : ℕ) (tr sn : List ℕ) (n : ℕ) where
   pub trade-taken : Headed exchanges home → Placed r n → r .kind ≡ tradeKind → (tr2 sn2 : List ℕ) (s : ℕ) → (s ≡ word r 0) × (s < 4294967296)
       → Snaps q st t orders n s (word r 1) (r .time) sn sn2 exchanges → (large : Bool) → CapIs sn2 n home exchanges sizes (word r 2) large
-      → (b c : ℕ) → b ≡ bit block → c ≡ bit large
-      → Put tr tr2 (word r 1 ∷ word r 2 ∷ b ∷ word r 4 ∷ word r 5 ∷ (r .time + word r 6) ∷ c ∷ 0 ∷ []) n 8
-      → TradesStep r home exchanges sizes block q st t orders tr sn n tr2 sn2 (n + 1)
-  trade-taken ok pl kind tr2 sn2 s es k large cis b c eb ec put =
+      → (b c d : ℕ) → b ≡ bit block → c ≡ bit large → d ≡ bit closing
+      → Put tr tr2 (word r 1 ∷ word r 2 ∷ b ∷ word r 4 ∷ word r 5 ∷ (r .time + word r 6) ∷ c ∷ d ∷ []) n 8
+      → TradesStep r home exchanges sizes block closing q st t orders tr sn n tr2 sn2 (n + 1)
+  trade-taken ok pl kind tr2 sn2 s es k large cis b c d eb ec ed put =
       record {
         so =
-            λ h e past is rd blocks qs ss os held.
+            λ h e past is rd blocks closes qs ss os held.
             let ek : e .kind ≡ tradeKind = rd .kind ∙ kind in
             let isT : isTrade e ≡ true = eq-eqb (e .kind) tradeKind ek in
             let newT : tradeAt n (e ∷ past) ≡ e = tradeAt-new n e past isT (held .numbered) in
@@ -76,17 +66,17 @@ module _ (r : Rec) (home exchanges : ℕ) (sizes : List ℕ) (block : Bool) (q s
             rw (es .0, rd .fields 0, rd .fields 1, ← rd .time) at (k .here past qs ss os y i hx hi)) in
             let sides : SidesAre h past (trade e) sn2 n =
             record { side = λ y hy. there y 0 hy (omega arith) ∙ side-is past e y } in
-            let row : (word r 1 ∷ word r 2 ∷ b ∷ word r 4 ∷ word r 5 ∷ (r .time + word r 6) ∷ c ∷ []) ≡ tradeRow h e past =
-            rw (eb, ec) (row-is r h e past block large rd (blocks ek) (cis .so h past (trade e) is sides (sym (rd .fields 2)))) in
+            let row : (word r 1 ∷ word r 2 ∷ b ∷ word r 4 ∷ word r 5 ∷ (r .time + word r 6) ∷ c ∷ d ∷ []) ≡ tradeRow h e past =
+            rw (eb, ec, ed) (row-is r h e past block large closing rd (blocks ek) (cis .so h past (trade e) is sides (sym (rd .fields 2))) closes) in
             record {
               numbered = omega (arith, held .numbered, count-cons isTrade e past isT);
               rows =
                   λ m i hm hi. byTest (eqb m n)
                   (λ z. rw (eqb-true m n z, newT, newB)
-                  (put .here i (omega arith) ∙ first-seven _ _ _ _ _ _ _ 0 i hi ∙ ap (λ (l : List ℕ). getD l i 0) row))
+                  (put .here i hi ∙ ap (λ (l : List ℕ). getD l i 0) row))
                   (λ z. let ne = eqb-false m n z in
                   let old : m < count isTrade past = omega (arith, ne, held .numbered) in
-                  rw (tradeAt-older m e past old, beforeTrade-older m e past old) (put .others m i (omega arith) ne ∙ held .rows m i (omega (arith, ne)) hi));
+                  rw (tradeAt-older m e past old, beforeTrade-older m e past old) (put .others m i hi ne ∙ held .rows m i (omega (arith, ne)) hi));
               snaps =
                   λ m y i hm hy hi. byTest (eqb m n)
                   (λ z. rw (eqb-true m n z, newT, newB) (there y i hy hi))
@@ -98,10 +88,10 @@ module _ (r : Rec) (home exchanges : ℕ) (sizes : List ℕ) (block : Bool) (q s
         few = omega (arith, pl .room kind);
       }
 
-  pub no-trade : n ≤ 128 → (r .kind ≡ tradeKind → ⊥) → TradesStep r home exchanges sizes block q st t orders tr sn n tr sn n
+  pub no-trade : n ≤ mostTrades → (r .kind ≡ tradeKind → ⊥) → TradesStep r home exchanges sizes block closing q st t orders tr sn n tr sn n
   no-trade few ne =
       record {
-        so = λ h e past is rd blocks qs ss os held. trades-alone h past tr sn n e held (λ z. ne (sym (rd .kind) ∙ z));
+        so = λ h e past is rd blocks closes qs ss os held. trades-alone h past tr sn n e held (λ z. ne (sym (rd .kind) ∙ z));
         few = few;
       }
 

@@ -9,7 +9,7 @@ use Rattle.rules.specs.Basics.{if_then_else_, _==_, _moreThan_, any, keep, bit}
 use Rattle.rules.specs.Limits.{mostTrades, lastTime}
 use Rattle.rules.specs.Header.{Header}
 use Rattle.rules.specs.Record.{buy, sell, Event, Trade, trade, isTrade, tradeKind}
-use Rattle.rules.specs.Journal.{History, count, tradeAt, beforeTrade}
+use Rattle.rules.specs.Journal.{History, count, tradeAt, beforeTrade, closingBegun}
 use Rattle.rules.specs.Prices.{standing, statusOf, upTo}
 use Rattle.rules.specs.Verdicts.{theBid, neither, through, sideThrough, isBlock}
 use Rattle.rules.specs.Reasons.{hadSent, report}
@@ -47,18 +47,19 @@ snap past y s price now =
 abbrev pub snapAt : Event → History → ℕ → List ℕ
 snapAt e before y = snap before y ((trade e) .series) ((trade e) .price) (e .time)
 
--- ---- what is kept of the trade itself: price, size, whether it is a block, complex, initiator, report, whether its due total is capped
+-- ---- what is kept of the trade itself: price, size, whether it is a block, complex, initiator, report, whether its due total is
+-- capped, whether the closing window had begun
 
 unfoldable pub tradeRow : Header → Event → History → List ℕ
 tradeRow h e before =
     (trade e) .price ∷ (trade e) .size ∷ bit (isBlock h before (trade e)) ∷ (trade e) .complex ∷ (trade e) .initiator
-    ∷ report e ∷ bit (capped h before (trade e)) ∷ []
+    ∷ report e ∷ bit (capped h before (trade e)) ∷ bit (closingBegun before) ∷ []
 
 -- ---- the tables beside the history
 
 pub record Traded (h : Header) (past : History) (tr sn : List ℕ) (n : ℕ) : Type 0 where
   pub numbered : n ≡ count isTrade past
-  pub rows : (m i : ℕ) → m < n → i < 7 → getD tr (m * 8 + i) 0 ≡ getD (tradeRow h (tradeAt m past) (beforeTrade m past)) i 0
+  pub rows : (m i : ℕ) → m < n → i < 8 → getD tr (m * 8 + i) 0 ≡ getD (tradeRow h (tradeAt m past) (beforeTrade m past)) i 0
   pub snaps : (m y i : ℕ) → m < n → y < h .exchanges → i < 5
       → getD sn ((m * 8 + y) * 8 + i) 0 ≡ getD (snapAt (tradeAt m past) (beforeTrade m past) y) i 0
 
@@ -114,9 +115,9 @@ pub record Placed (r : Rec) (n : ℕ) : Type 0 where
   pub room : r .kind ≡ tradeKind → n < mostTrades
 
 -- a record of any kind
-pub record TradesStep (r : Rec) (home exchanges : ℕ) (sizes : List ℕ) (block : Bool) (q st t : List ℕ) (orders : ℕ)
+pub record TradesStep (r : Rec) (home exchanges : ℕ) (sizes : List ℕ) (block closing : Bool) (q st t : List ℕ) (orders : ℕ)
     (tr sn : List ℕ) (n : ℕ) (tr2 sn2 : List ℕ) (n2 : ℕ) : Type 0 where
   pub so : (h : Header) (e : Event) (past : History) → Heads h exchanges home sizes → Reads e r
-      → (e .kind ≡ tradeKind → block ≡ isBlock h past (trade e)) → Quoted past q → Statuses past st → Excused past t orders
+      → (e .kind ≡ tradeKind → block ≡ isBlock h past (trade e)) → closing ≡ closingBegun past → Quoted past q → Statuses past st → Excused past t orders
       → Traded h past tr sn n → Traded h (e ∷ past) tr2 sn2 n2
   pub few : n2 ≤ mostTrades

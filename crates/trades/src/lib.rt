@@ -1,12 +1,14 @@
 // Trades: what is kept of each, so that its later Satisfaction Orders are judged by the prices, customer contracts and statuses at the trade.
 ghost use mathlib.Core.Path.{_≡_};
 ghost use Prim.Native.Nat.{_+_, _*_, _<_, _≤_};
+ghost use Rattle.rules.specs.Limits.{mostTrades};
 ghost use Rattle.quotes.specs.Tables.{Within};
 ghost use Rattle.orders.specs.Orders.{Headed};
 ghost use Rattle.excuses.specs.Excuses.{Chains};
 ghost use Rattle.trades.specs.Trades.{priceOn, customersOn, excusingSide, caps, ExcuseIs, Snapped, Snaps, CapIs, Placed, TradesStep};
 use prices::Side;
 use quotes::Quote;
+use rows::Numbers;
 use rows::Rec;
 use rows::Seat;
 use rows::Way;
@@ -30,6 +32,9 @@ impl Kept {
 
     // Whether its due total is capped.
     pub const CAPPED: usize = 6;
+
+    // Whether the closing window had begun.
+    pub const CLOSING: usize = 7;
 }
 
 // What is kept of an exchange at a trade: the side traded through, the price and the customer contracts there, its status,
@@ -195,38 +200,41 @@ fn is_capped(
     false
 }
 
-// One record of any kind; only a trade, found to be a block or not, changes anything here.
+// One record of any kind; only a trade, found to be a block or not, in the closing window or before it, changes anything here.
 pub fn keep_trade(
     tr: &mut [u32; 1024],
     sn: &mut [u32; 8192],
-    n: usize,
+    c: Numbers,
     seat: Seat,
     sizes: &[u32; 16],
     q: &[u32; 2048],
     st: &[u32; 8],
     t: &[u32; 2048],
     ch: &[u32; 512],
-    orders: usize,
     block: bool,
+    closing: bool,
     r: Rec,
 ) -> usize
-    requires { ⌜ n ≤ 128 ⌝ }
-    requires { ⌜ Placed r n ⌝ }
+    requires { ⌜ c .trades ≤ mostTrades ⌝ }
+    requires { ⌜ Placed r (c .trades) ⌝ }
     requires { ⌜ Headed (seat .exchanges) (seat .home) ⌝ }
-    requires { ⌜ Chains (now t) (now ch) orders ⌝ }
-    ensures { λ m. ⌜ TradesStep r (seat .home) (seat .exchanges) (now (sizes .entry)) block (now (q .entry)) (now (st .entry)) (now (t .entry)) orders (now (tr .entry)) (now (sn .entry)) n (now (tr .exit)) (now (sn .exit)) m ⌝ }
+    requires { ⌜ Chains (now t) (now ch) (c .orders) ⌝ }
+    ensures { λ m. ⌜ TradesStep r (seat .home) (seat .exchanges) (now (sizes .entry)) block closing (now (q .entry)) (now (st .entry)) (now (t .entry)) (c .orders) (now (tr .entry)) (now (sn .entry)) (c .trades) (now (tr .exit)) (now (sn .exit)) m ⌝ }
 {
+    let n = c.trades;
     if r.kind != Rec::TRADE {
         return n;
     }
+    let orders = c.orders;
     let row = r.row;
     let time = r.time;
     let s = rows::index(row[0]);
     keep_snaps(sn, n, seat.exchanges, q, st, t, ch, orders, s, row[1], time);
     let capped = rows::bit_of(is_capped(sn, n, seat.home, seat.exchanges, sizes, row[2]));
     let found = rows::bit_of(block);
+    let begun = rows::bit_of(closing);
     let report = time + row[6];
-    let kept = [row[1], row[2], found, row[4], row[5], report, capped, 0];
+    let kept = [row[1], row[2], found, row[4], row[5], report, capped, begun];
     rows::put_row(tr, n, kept);
     n + 1
 }

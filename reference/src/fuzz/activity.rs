@@ -4,6 +4,7 @@ use super::chance::Chance;
 use super::values;
 use crate::header::Header;
 use crate::number::put;
+use crate::record::kind;
 
 const LAST_TIME: u32 = 86_399_999;
 
@@ -23,11 +24,30 @@ struct Sent {
     answered: bool,
 }
 
+/// What away exchanges hold for customers and ask for.
+#[derive(Clone, Copy)]
+enum Held {
+    Anything,
+    /// The same or a multiple of the same, so that shares come out level.
+    Even(u32),
+    /// Contracts on both sides of the limit at the close, and many more.
+    AroundTen,
+}
+
+#[derive(Clone, Copy)]
+enum ClosingWindow {
+    NotToday,
+    /// So many records come before the one that says so.
+    After(usize),
+    Begun,
+}
+
 pub struct Activity<'c> {
     pub chance: &'c mut Chance,
     pub bytes: Vec<u8>,
     /// How many records go well before one with a fault.
     pub until_fault: Option<usize>,
+    closing_window: ClosingWindow,
     pub home: u32,
     pub exchanges: u32,
     close: u32,
@@ -62,6 +82,7 @@ impl<'c> Activity<'c> {
             chance,
             bytes,
             until_fault: None,
+            closing_window: ClosingWindow::NotToday,
             home: header[0],
             exchanges: header[1],
             close: header[2],
@@ -84,14 +105,40 @@ impl<'c> Activity<'c> {
         self.sent.len()
     }
 
-    /// Adds a record, or one with a fault where one is wanted.
+    /// Adds a record, or one with a fault where one is wanted; before it the closing record where its turn has come.
     fn add(&mut self, kind: u32, milliseconds: u32, fields: &[u32]) {
+        let milliseconds = self.close_in_turn(milliseconds);
         if self.until_fault == Some(0) {
             super::faults::add_faulty(self, kind, milliseconds, fields);
         } else {
             self.add_as_is(kind, milliseconds, fields);
         }
         self.until_fault = self.until_fault.map(|left| left.wrapping_sub(1));
+    }
+
+    /// The closing record comes after so many more, unless it has come.
+    pub fn close_after(&mut self, records: usize) {
+        if !matches!(self.closing_window, ClosingWindow::Begun) {
+            self.closing_window = ClosingWindow::After(records);
+        }
+    }
+
+    /// In its turn the closing record stands in the millisecond of the record before it or of the one after it. Answers
+    /// the milliseconds left for the latter.
+    fn close_in_turn(&mut self, milliseconds: u32) -> u32 {
+        match self.closing_window {
+            ClosingWindow::After(0) => {
+                let waited = self.chance.pick(&[0, milliseconds]);
+                self.add_as_is(kind::CLOSING_WINDOW, waited, &[]);
+                self.closing_window = ClosingWindow::Begun;
+                milliseconds - waited
+            }
+            ClosingWindow::After(records) => {
+                self.closing_window = ClosingWindow::After(records - 1);
+                milliseconds
+            }
+            _ => milliseconds,
+        }
     }
 
     pub fn add_as_is(&mut self, kind: u32, milliseconds: u32, fields: &[u32]) {
@@ -205,6 +252,16 @@ impl<'c> Activity<'c> {
         self.statuses[exchange as usize] = status;
     }
 
+    /// Statuses, four bytes each, as many as fit into so many bytes.
+    pub fn statuses_up_to(&mut self, length: usize) {
+        while self.bytes.len() + 4 <= length {
+            let exchange = self.chance.between(1, self.exchanges);
+            let status = self.chance.between(0, 2);
+            self.add(2, 0, &[exchange, status]);
+            self.statuses[exchange as usize] = status;
+        }
+    }
+
     pub fn some_status(&mut self) {
         let exchange = if self.chance.one_in(3) { self.home } else { self.away() };
         let status = self.chance.weighted(&[(5, 0), (2, 1), (2, 2)]);
@@ -257,9 +314,24 @@ impl<'c> Activity<'c> {
         }
     }
 
-    /// Several exchanges show better prices than a trade, and most of them ask for satisfaction. Often they hold the
-    /// same or a multiple of the same, so that shares come out level.
+    /// Several exchanges show better prices than a trade, and most of them ask for satisfaction.
     pub fn shared_trade(&mut self) {
+        self.mostly_all_firm();
+        let series = self.a_series();
+        let even = self.chance.one_in(2);
+        let held = if even { Held::Even(self.chance.pick(&[10, 30, 30, 12, 500])) } else { Held::Anything };
+        self.trade_through(series, held);
+    }
+
+    /// The same around the limit at the close; often the closing record comes right before the trade, right after it or
+    /// among the Satisfaction Orders.
+    pub fn trade_around_ten(&mut self) {
+        self.mostly_all_firm();
+        let series = self.a_series();
+        self.trade_through(series, Held::AroundTen);
+    }
+
+    fn mostly_all_firm(&mut self) {
         if self.chance.percent(75) {
             self.all_firm();
         } else {
@@ -269,18 +341,28 @@ impl<'c> Activity<'c> {
                 self.status(exchange, status);
             }
         }
-        let series = self.a_series();
+    }
+
+    fn trade_through(&mut self, series: u32, held: Held) {
         let price = self.level.clamp(8, 999_990);
-        let even = self.chance.one_in(2).then(|| self.chance.pick(&[10, 30, 30, 12, 500]));
-        let senders = self.quote_better(series, price, even);
-        let size = match even {
-            Some(held) => self.chance.between(10, 2 * held),
-            None => values::contracts(self.chance),
+        let senders = self.quote_better(series, price, held);
+        let size = match held {
+            Held::Anything => values::contracts(self.chance),
+            Held::Even(held) => self.chance.between(10, 2 * held),
+            Held::AroundTen => values::trade_size_around_ten(self.chance),
         };
         let (milliseconds, delay) = (self.pause(), self.delay());
+        if matches!(held, Held::AroundTen) && self.chance.one_in(2) {
+            let records = self.chance.below(4);
+            self.close_after(records);
+        }
         self.trade_at(milliseconds, series, price, size, delay);
         for sender in senders {
-            let size = even.unwrap_or_else(|| values::contracts(self.chance));
+            let size = match held {
+                Held::Anything => values::contracts(self.chance),
+                Held::Even(held) => held,
+                Held::AroundTen => values::claimed_around_ten(self.chance),
+            };
             if self.chance.percent(90) {
                 self.satisfaction_of(size, self.trades.len() - 1, sender);
             }
@@ -288,7 +370,7 @@ impl<'c> Activity<'c> {
     }
 
     /// Some away exchanges show bids above a price or offers below it; answers which.
-    fn quote_better(&mut self, series: u32, price: u32, even: Option<u32>) -> Vec<u32> {
+    fn quote_better(&mut self, series: u32, price: u32, held: Held) -> Vec<u32> {
         let bids = self.chance.one_in(2);
         let mut senders = self.away_exchanges();
         self.chance.shuffle(&mut senders);
@@ -296,13 +378,15 @@ impl<'c> Activity<'c> {
         for &sender in &senders {
             let cents = self.chance.between(1, 4);
             let prices = if bids { [price + cents, 0] } else { [0, price - cents] };
-            match even {
-                Some(held) => {
-                    let held = held * self.chance.pick(&[1, 1, 1, 2, 3]);
-                    self.quote_held(sender, series, prices, held, held);
+            let held = match held {
+                Held::Anything => {
+                    self.quote(sender, series, prices);
+                    continue;
                 }
-                None => self.quote(sender, series, prices),
-            }
+                Held::Even(held) => held * self.chance.pick(&[1, 1, 1, 2, 3]),
+                Held::AroundTen => values::claimed_around_ten(self.chance),
+            };
+            self.quote_held(sender, series, prices, held, held);
         }
         self.chance.shuffle(&mut senders);
         senders

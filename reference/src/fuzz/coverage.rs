@@ -1,10 +1,14 @@
 //! What the questions of a run have reached, by the right answers.
 
+use super::sheets::{accepted_header, desk_after};
 use crate::ask::{Answer, Question, op};
-use crate::claims::Desk;
+use crate::claims::{Desk, Line, Trade, reason};
 use crate::event::{HomeTrade, Order, Satisfaction};
-use crate::journal::{Journal, accept, open, walk};
+use crate::header::Header;
+use crate::journal::{Journal, Moment, Watcher, open, walk};
+use crate::record::{Record, kind};
 use crate::sheet;
+use std::cmp::Ordering;
 use std::collections::BTreeMap;
 use std::ops::RangeInclusive;
 
@@ -15,7 +19,19 @@ const WANTED: &str = "
     trade above firm size, shared out|trade above firm size, claims within it
     trade within firm size, claims above it
     journal with 128 trades|journal with 256 sent orders|journal with 512 Satisfaction Orders
-    journal of 32,768 bytes|sheet accepted, our own|sheet accepted, another
+    journal of 32,768 bytes|journal with 8,000 records or more
+    sheet accepted, our own|sheet accepted, another
+    closing record accepted|closing record refused, a second|closing record refused, past the day
+    closing record in the millisecond of a trade before it
+    closing record in the millisecond of a trade after it
+    closing record read alone|closing record read alone, more than its own given
+    closing record read alone, unreadable|closing record read alone, past the day
+    closing record written alone|closing record written alone, more than its own given
+    closing record written alone, past the day
+    claim at the close limited to ten|claim at the close of ten as it is|claim at the close below ten
+    claim above ten before the closing record|claim above ten before the closing record, asked after it
+    trade at the close, limited claims shared out|trade at the close, limited claims all due
+    sheet refused, above the limit at the close
     output with just enough room|output with one byte to spare|output one byte too short";
 
 fn wanted() -> impl Iterator<Item = String> {
@@ -31,6 +47,62 @@ fn wanted() -> impl Iterator<Item = String> {
         .filter(|what| !what.is_empty())
 }
 
+/// Where the closing record stands among the others of a journal.
+#[derive(Default)]
+struct Closing {
+    records: usize,
+    begun: Option<u32>,
+    last_trade: Option<u32>,
+    with_trade_before: bool,
+    with_trade_after: bool,
+    /// For each Satisfaction Order, whether it came after the closing record.
+    asked_after: Vec<bool>,
+}
+
+impl Watcher for Closing {
+    fn record(&mut self, _record: &Record) {
+        self.records += 1;
+    }
+
+    fn home_trade(&mut self, at: Moment, _trade: &HomeTrade) {
+        self.with_trade_after |= self.begun == Some(at.time);
+        self.last_trade = Some(at.time);
+    }
+
+    fn satisfaction_order(&mut self, _at: Moment, _order: &Satisfaction) {
+        self.asked_after.push(self.begun.is_some());
+    }
+
+    fn closing_window(&mut self, at: Moment) {
+        self.with_trade_before = self.last_trade == Some(at.time);
+        self.begun = Some(at.time);
+    }
+}
+
+impl Closing {
+    fn of(journal: &[u8]) -> Closing {
+        let mut closing = Closing::default();
+        let (header, reader) = open(journal).expect("the journal was accepted");
+        walk(&header, reader, &mut closing).expect("the journal was accepted");
+        closing
+    }
+
+    /// What a line with reason 0 says of the limit at the close.
+    fn limit_on(&self, trade: &Trade, line: &Line, asked_after: bool) -> Option<&'static str> {
+        let unlimited = trade.claim_without_limit(line.size, line.customers);
+        match (trade.in_closing_window, unlimited.cmp(&Line::MOST_CLAIM_AT_CLOSE)) {
+            (true, Ordering::Greater) => Some("claim at the close limited to ten"),
+            (true, Ordering::Equal) => Some("claim at the close of ten as it is"),
+            (true, Ordering::Less) => Some("claim at the close below ten"),
+            (false, Ordering::Greater) if asked_after => Some(ASKED_AFTER),
+            (false, Ordering::Greater) if self.begun.is_some() => Some("claim above ten before the closing record"),
+            _ => None,
+        }
+    }
+}
+
+const ASKED_AFTER: &str = "claim above ten before the closing record, asked after it";
+
 #[derive(Default)]
 pub struct Coverage(BTreeMap<String, u64>);
 
@@ -41,12 +113,17 @@ impl Coverage {
 
     pub fn note(&mut self, question: &Question, answer: &Answer) {
         self.count(format!("answer {}", answer.no));
-        if (op::JOURNAL..=op::TOTALS).contains(&question.op) && accept(&question.a).is_ok() {
-            self.note_journal(&question.a);
+        if (op::JOURNAL..=op::TOTALS).contains(&question.op) {
+            match accepted_header(&question.a) {
+                Some(header) => self.note_journal(&header, &question.a),
+                None => self.note_refused(question, answer),
+            }
         }
-        match question.op {
-            op::CHECK if answer.no == 0 => self.note_good_sheet(question),
-            op::DAY if answer.no == 0 => self.note_list(&answer.bytes),
+        match (question.op, answer.no) {
+            (op::CHECK, 0) => self.note_good_sheet(question),
+            (op::CHECK, 24) => self.note_fill_above_claim(question, answer),
+            (op::DAY, 0) => self.note_list(&answer.bytes),
+            (op::WRITE_RECORD | op::READ_RECORD, _) => self.note_record_alone(question, answer),
             _ => {}
         }
         if matches!(question.op, op::DAY | op::SHEET | op::WRITE_HEADER | op::WRITE_RECORD | op::REWRITE) {
@@ -66,20 +143,79 @@ impl Coverage {
         }
     }
 
-    fn note_journal(&mut self, journal: &[u8]) {
-        let (header, reader) = open(journal).expect("the journal was accepted");
-        let mut desk = Desk::new(&header);
-        walk(&header, reader, &mut desk).expect("the journal was accepted");
+    /// A journal refused at its closing record.
+    fn note_refused(&mut self, question: &Question, answer: &Answer) {
+        if question.a.get(answer.place as usize) == Some(&(kind::CLOSING_WINDOW as u8)) {
+            match answer.no {
+                5 => self.count("closing record refused, past the day"),
+                7 => self.count("closing record refused, a second"),
+                _ => {}
+            }
+        }
+    }
+
+    /// A closing record alone, read or written.
+    fn note_record_alone(&mut self, question: &Question, answer: &Answer) {
+        const KIND: usize = 4 * (Header::NUMBERS + 1);
+        const FIELDS: usize = KIND + 8;
+        let closing = kind::CLOSING_WINDOW.to_le_bytes();
+        let (what, beyond) = if question.op == op::READ_RECORD && question.b.first() == Some(&closing[0]) {
+            ("read", answer.bytes.first().is_some_and(|&used| question.b.len() > used as usize))
+        } else if question.op == op::WRITE_RECORD && question.a.get(KIND..KIND + 4) == Some(&closing) {
+            ("written", question.a[FIELDS..].iter().any(|&byte| byte != 0))
+        } else {
+            return;
+        };
+        let how = match answer.no {
+            0 if beyond => ", more than its own given",
+            0 => "",
+            2 => ", unreadable",
+            5 => ", past the day",
+            _ => return,
+        };
+        self.count(format!("closing record {what} alone{how}"));
+    }
+
+    fn note_journal(&mut self, header: &Header, journal: &[u8]) {
+        let desk = desk_after(header, journal);
+        let closing = Closing::of(journal);
         let limits = [
             (desk.trades.len() == HomeTrade::MOST, "journal with 128 trades"),
             (desk.sent_orders() as usize == Order::MOST_SENT, "journal with 256 sent orders"),
             (desk.lines.len() == Satisfaction::MOST, "journal with 512 Satisfaction Orders"),
             (journal.len() == Journal::MOST_BYTES, "journal of 32,768 bytes"),
+            (closing.records >= 8_000, "journal with 8,000 records or more"),
+            (closing.begun.is_some(), "closing record accepted"),
+            (closing.with_trade_before, "closing record in the millisecond of a trade before it"),
+            (closing.with_trade_after, "closing record in the millisecond of a trade after it"),
         ];
         for (_, limit) in limits.into_iter().filter(|(reached, _)| *reached) {
             self.count(limit);
         }
         self.note_trades(&desk);
+        for trade in &desk.trades {
+            self.note_limit(&desk, trade, &closing);
+        }
+    }
+
+    /// The limit at the close on the claims of a trade.
+    fn note_limit(&mut self, desk: &Desk, trade: &Trade, closing: &Closing) {
+        let (mut sum, mut limited) = (0, false);
+        for &at in trade.lines() {
+            let line = &desk.lines[at as usize];
+            if line.reason == reason::NONE {
+                sum += line.claim;
+                limited |= line.claim < trade.claim_without_limit(line.size, line.customers);
+                if let Some(what) = closing.limit_on(trade, line, closing.asked_after[at as usize]) {
+                    self.count(what);
+                }
+            }
+        }
+        if limited && trade.due_total(sum) < sum {
+            self.count("trade at the close, limited claims shared out");
+        } else if limited {
+            self.count("trade at the close, limited claims all due");
+        }
     }
 
     fn note_trades(&mut self, desk: &Desk) {
@@ -103,6 +239,18 @@ impl Coverage {
         let written = sheet::write(&question.a, &mut own);
         let is_own = written.is_ok_and(|end| own[..end] == question.b);
         self.count(if is_own { "sheet accepted, our own" } else { "sheet accepted, another" });
+    }
+
+    /// A sheet refused for a fill above a claim that the limit at the close has made smaller.
+    fn note_fill_above_claim(&mut self, question: &Question, answer: &Answer) {
+        let header = accepted_header(&question.a).expect("a journal refused has no 24");
+        let desk = desk_after(&header, &question.a);
+        let line = &desk.lines[answer.place as usize];
+        let trade = desk.trades.iter().find(|trade| trade.lines().contains(&(answer.place as u16)));
+        let unlimited = trade.map(|trade| trade.claim_without_limit(line.size, line.customers));
+        if line.reason == reason::NONE && unlimited > Some(line.claim) {
+            self.count("sheet refused, above the limit at the close");
+        }
     }
 
     fn note_list(&mut self, text: &[u8]) {
@@ -131,7 +279,7 @@ impl Coverage {
     /// Prints what was reached how often, beside the answers' numbers, and answers what was not.
     pub fn print(&self) -> Vec<String> {
         for (what, count) in self.0.iter().filter(|(what, _)| !what.starts_with("answer")) {
-            println!("{what:44} {count:9}");
+            println!("{what:57} {count:9}");
         }
         wanted().filter(|what| !self.0.contains_key(what)).collect()
     }

@@ -3,27 +3,59 @@
 use super::activity::{Activity, put_number};
 use super::chance::Chance;
 use super::values;
+use crate::record::kind;
 
 /// Adds the record with one thing wrong, or what is wrong only beside the records before it.
 pub fn add_faulty(day: &mut Activity, kind: u32, milliseconds: u32, fields: &[u32]) {
-    match day.chance.below(8) {
+    match day.chance.below(9) {
         0 => {
-            let unknown = day.chance.pick(&[0, 8, 9, 10, 127, 128, 16_384, 268_435_455]);
+            let unknown = values::unknown_kind(day.chance);
             day.add_as_is(unknown, milliseconds, fields);
         }
         1 => {
-            let beyond = 86_399_999 - day.time.min(86_399_999) + day.chance.between(0, 1);
+            let beyond = around_the_days_end(day);
             day.add_as_is(kind, beyond, fields);
         }
         2 => add_with_a_long_number(day, kind, milliseconds, fields),
         3 => add_unsound_quote(day, milliseconds),
         4 => add_unknown_or_twice(day, milliseconds),
+        5 => add_faulty_closing(day, milliseconds),
         _ => {
             let mut fields = fields.to_vec();
             let field = day.chance.below(fields.len());
             fields[field] = values::near_an_end(day.chance, kind, field, day.home, day.exchanges);
             day.add_as_is(kind, milliseconds, &fields);
         }
+    }
+}
+
+/// Milliseconds up to the day's last one, or one more.
+fn around_the_days_end(day: &mut Activity) -> u32 {
+    86_399_999 - day.time.min(86_399_999) + day.chance.between(0, 1)
+}
+
+/// A closing record that is perhaps the second: as it should be, past the day (5 comes before 7), with a number that
+/// can't be read, cut off, or with a byte after it that is no field of its own but the next record's kind.
+fn add_faulty_closing(day: &mut Activity, milliseconds: u32) {
+    if day.chance.percent(60) {
+        day.add_as_is(kind::CLOSING_WINDOW, 0, &[]);
+    }
+    match day.chance.below(8) {
+        0..=2 => {
+            let beyond = around_the_days_end(day);
+            day.add_as_is(kind::CLOSING_WINDOW, beyond, &[]);
+        }
+        3 => add_with_a_long_number(day, kind::CLOSING_WINDOW, milliseconds, &[]),
+        4 => {
+            day.add_as_is(kind::CLOSING_WINDOW, 300, &[]);
+            let cut_off = day.bytes.len() - day.chance.between(1, 2) as usize;
+            day.bytes.truncate(cut_off);
+        }
+        5 => {
+            let next = day.chance.between(0, 12);
+            day.add_as_is(kind::CLOSING_WINDOW, milliseconds, &[next]);
+        }
+        _ => day.add_as_is(kind::CLOSING_WINDOW, milliseconds, &[]),
     }
 }
 

@@ -4,6 +4,7 @@ use super::activity::{Activity, put_number};
 use super::chance::Chance;
 use super::{faults, values};
 use crate::header::Header;
+use crate::journal::Journal;
 
 #[derive(Clone, Copy)]
 enum Day {
@@ -15,8 +16,20 @@ enum Day {
     ManyTrades,
     ManySent,
     ManySatisfactions,
+    ManyRecords,
     Full,
     TooLong,
+}
+
+/// The closing record comes at any point of the day, or never.
+fn open<'c>(chance: &'c mut Chance, header: &[u32; Header::NUMBERS]) -> Activity<'c> {
+    let mut day = Activity::open(chance, header);
+    if day.chance.percent(60) {
+        let most = day.chance.pick(&[4, 30, 300]);
+        let records = day.chance.below(most);
+        day.close_after(records);
+    }
+    day
 }
 
 /// Mostly days with trades that are shared out, for questions about sheets.
@@ -26,10 +39,14 @@ pub fn journal_with_claims(chance: &mut Chance) -> Vec<u8> {
     }
     let header = values::header(chance);
     let trades = 1 + chance.below(4);
-    let mut day = Activity::open(chance, &header);
+    let mut day = open(chance, &header);
     for _ in 0..trades {
         day.something();
-        day.shared_trade();
+        if day.chance.one_in(2) {
+            day.trade_around_ten();
+        } else {
+            day.shared_trade();
+        }
     }
     day.bytes
 }
@@ -44,6 +61,7 @@ pub fn journal(chance: &mut Chance) -> Vec<u8> {
         (6, Day::ManyTrades),
         (6, Day::ManySent),
         (10, Day::ManySatisfactions),
+        (4, Day::ManyRecords),
         (12, Day::Full),
         (6, Day::TooLong),
     ]);
@@ -59,6 +77,7 @@ pub fn journal(chance: &mut Chance) -> Vec<u8> {
         Day::ManyTrades => many(chance, 128, |day| day.trades(), |day| day.trade()),
         Day::ManySent => many(chance, 256, |day| day.sent(), |day| day.sent_order()),
         Day::ManySatisfactions => many_satisfactions(chance),
+        Day::ManyRecords => many_records(chance),
         Day::Full => full(chance),
         Day::TooLong => too_long(chance),
     }
@@ -72,13 +91,17 @@ fn usual(chance: &mut Chance, until_fault: Option<usize>) -> Vec<u8> {
         14..=18 => 10 + chance.below(60),
         _ => 50 + chance.below(300),
     };
-    let mut day = Activity::open(chance, &header);
+    let mut day = open(chance, &header);
     day.until_fault = until_fault;
     if day.chance.percent(70) {
         day.move_on();
     }
     for _ in 0..steps {
-        day.something();
+        if day.chance.one_in(12) {
+            day.trade_around_ten();
+        } else {
+            day.something();
+        }
     }
     day.bytes
 }
@@ -102,7 +125,8 @@ fn only_header(chance: &mut Chance) -> Vec<u8> {
         faults::damage(chance, &mut bytes);
     }
     if chance.one_in(3) {
-        bytes.extend([2, 0, 1, 0]);
+        let records: &[&[u8]] = &[&[2, 0, 1, 0], &[9, 0], &[9, 0, 2, 0, 1, 0], &[9, 0, 9, 0], &[9, 0, 9], &[9]];
+        bytes.extend(chance.pick(records));
     }
     bytes
 }
@@ -112,7 +136,7 @@ fn many(chance: &mut Chance, most: usize, count: fn(&Activity) -> usize, add: fn
     let header = values::header(chance);
     let wanted = most + chance.below(2);
     let busy = chance.one_in(3);
-    let mut day = Activity::open(chance, &header);
+    let mut day = open(chance, &header);
     while count(&day) < wanted {
         add(&mut day);
         if busy && day.chance.one_in(4) && count(&day) + 4 < wanted {
@@ -131,7 +155,7 @@ fn many_satisfactions(chance: &mut Chance) -> Vec<u8> {
         *size = 10;
     }
     let wanted = 511 + chance.below(3);
-    let mut day = Activity::open(chance, &header);
+    let mut day = open(chance, &header);
     while day.satisfactions + 7 < wanted && day.trades() < 127 {
         day.shared_trade();
     }
@@ -148,12 +172,25 @@ fn many_satisfactions(chance: &mut Chance) -> Vec<u8> {
     day.bytes
 }
 
+/// About as many records as a journal can hold, the last but a few of which print.
+fn many_records(chance: &mut Chance) -> Vec<u8> {
+    let header = values::header(chance);
+    let before_closing = chance.below(10_000);
+    let mut day = Activity::open(chance, &header);
+    day.close_after(before_closing);
+    day.statuses_up_to(Journal::MOST_BYTES - 60);
+    day.received_order();
+    day.quote_around(day.home);
+    day.statuses_up_to(Journal::MOST_BYTES);
+    day.bytes
+}
+
 /// Exactly as many bytes as a journal may have, or one fewer or more.
 fn full(chance: &mut Chance) -> Vec<u8> {
     let header = values::header(chance);
     let length = chance.pick(&[32_767, 32_768, 32_768, 32_769]);
     let busy = chance.below(200);
-    let mut day = Activity::open(chance, &header);
+    let mut day = open(chance, &header);
     if day.chance.one_in(3) {
         day.series = (0..32).collect();
     }

@@ -69,7 +69,7 @@ fn with_fields_beyond(chance: &mut Chance, record: &Record) -> [u32; Record::MOS
     let mut fields = record.fields;
     if chance.one_in(3) {
         let beyond = chance.pick(&[1, 268_435_456, u32::MAX]);
-        fields[Record::field_count(record.kind)..].fill(beyond);
+        fields[record.own_fields().len()..].fill(beyond);
     }
     fields
 }
@@ -79,7 +79,7 @@ fn read_record(chance: &mut Chance) -> Question {
     let record = values::record_or_near(chance, &header);
     let time = values::time_so_far(chance, record.milliseconds);
     let mut bytes = Vec::new();
-    for &number in [record.kind, record.milliseconds].iter().chain(&record.fields[..Record::field_count(record.kind)]) {
+    for &number in [record.kind, record.milliseconds].iter().chain(record.own_fields()) {
         put_number(&mut bytes, number);
     }
     if chance.one_in(3) {

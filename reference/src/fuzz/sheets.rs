@@ -3,7 +3,7 @@
 use super::activity::put_number;
 use super::chance::Chance;
 use super::faults;
-use crate::claims::{Desk, Trade};
+use crate::claims::{Desk, Trade, reason};
 use crate::header::Header;
 use crate::journal::{open, walk};
 use crate::sheet::own_fills;
@@ -19,10 +19,11 @@ pub fn sheet(chance: &mut Chance, journal: &[u8]) -> Vec<u8> {
     let Some(header) = accepted_header(journal) else {
         return (0..chance.below(12)).map(|_| chance.byte()).collect();
     };
-    let mut desk = Desk::new(&header);
-    let (_, reader) = open(journal).expect("the journal was accepted");
-    walk(&header, reader, &mut desk).expect("the journal was accepted");
+    let desk = desk_after(&header, journal);
     let mut draft = Draft { desk: &desk, lines: own_lines(&desk) };
+    if chance.one_in(8) {
+        draft.lines = lines_with_another_limit(desk_after(&header, journal), chance.one_in(3));
+    }
     if chance.percent(60) {
         draft.break_ties_otherwise(chance);
     }
@@ -38,9 +39,31 @@ pub fn sheet(chance: &mut Chance, journal: &[u8]) -> Vec<u8> {
     bytes
 }
 
-fn accepted_header(journal: &[u8]) -> Option<Header> {
+pub fn accepted_header(journal: &[u8]) -> Option<Header> {
     crate::journal::accept(journal).ok()?;
     open(journal).ok().map(|(header, _)| header)
+}
+
+/// The desk at the end of an accepted journal.
+pub fn desk_after<'h>(header: &'h Header, journal: &[u8]) -> Desk<'h> {
+    let mut desk = Desk::new(header);
+    let (_, reader) = open(journal).expect("the journal was accepted");
+    walk(header, reader, &mut desk).expect("the journal was accepted");
+    desk
+}
+
+/// Our own lines if the limit at the close held for every trade, or for none.
+fn lines_with_another_limit(mut desk: Desk, for_every_trade: bool) -> Vec<[u32; 3]> {
+    for trade in &mut desk.trades {
+        trade.in_closing_window = for_every_trade;
+        for &line in trade.lines() {
+            let line = &mut desk.lines[line as usize];
+            if line.reason == reason::NONE {
+                line.claim = trade.claim(line.size, line.customers);
+            }
+        }
+    }
+    own_lines(&desk)
 }
 
 fn own_lines(desk: &Desk) -> Vec<[u32; 3]> {

@@ -18,6 +18,17 @@ pub fn contracts(chance: &mut Chance) -> u32 {
     }
 }
 
+/// Contracts on either side of the limit at the close, or much more; often the same, so that shares come out level.
+pub fn claimed_around_ten(chance: &mut Chance) -> u32 {
+    if chance.one_in(2) { 30 } else { chance.pick(&[1, 9, 9, 10, 10, 11, 11, 12, 60, 500, 100_000]) }
+}
+
+/// A size on either side of the limit at the close, of the usual firm sizes and of two or more claims at the limit.
+pub fn trade_size_around_ten(chance: &mut Chance) -> u32 {
+    let shared = chance.between(11, 70);
+    chance.pick(&[1, 9, 10, 10, 11, 12, 12, 19, 20, 21, 30, shared, shared, 500, 3_000])
+}
+
 pub fn customers(chance: &mut Chance, size: u32) -> u32 {
     match chance.below(8) {
         0 => 0,
@@ -112,8 +123,13 @@ fn usual_fields(chance: &mut Chance, kind: u32, header: &[u32]) -> [u32; Record:
         }
         4 | 6 => [chance.between(1, 2), away, series(chance), one_or_two, price, size, 0, 0],
         5 => [naming(chance), chance.pick(&[0, 1, size, 100_000]), 0, 0, 0, 0, 0, 0],
-        _ => [naming(chance), away, price, size, 0, 0, 0, 0],
+        7 => [naming(chance), away, price, size, 0, 0, 0, 0],
+        _ => [0; Record::MOST_FIELDS],
     }
+}
+
+pub fn unknown_kind(chance: &mut Chance) -> u32 {
+    chance.pick(&[0, 8, 10, 11, 12, 127, 128, 16_384, 268_435_455])
 }
 
 fn naming(chance: &mut Chance) -> u32 {
@@ -131,15 +147,16 @@ fn quote_fields(chance: &mut Chance, exchanges: u32) -> [u32; Record::MOST_FIELD
 /// A record, one number of which may lie at the end of its range, outside, or beyond what can be stored.
 pub fn record_or_near(chance: &mut Chance, header: &[u32; Header::NUMBERS]) -> Record {
     let exchanges = header[1].clamp(2, 8);
-    let kind = chance.between(1, 7);
+    let kind = chance.pick(&[1, 2, 3, 4, 5, 6, 7, 9]);
     let fields = usual_fields(chance, kind, &[header[0].min(8), exchanges]);
     let milliseconds = chance.pick(&[0, 0, 1, 127, 128, 1_000, 20_001, 16_384, 2_097_152, 86_399_999]);
     let mut record = Record { kind, milliseconds, fields };
     match chance.below(12) {
-        0 => record.kind = chance.pick(&[0, 8, 9, 127, 128, 16_384, 268_435_455, 268_435_456, u32::MAX]),
+        0 => record.kind = if chance.one_in(4) { chance.pick(&HUGE) } else { unknown_kind(chance) },
         1 => record.milliseconds = chance.pick(&[86_399_999, 86_400_000, 268_435_455, 268_435_456, u32::MAX]),
         2..=6 => {
-            let field = chance.below(Record::field_count(kind));
+            // A kind without fields is given one that does not count.
+            let field = chance.below(record.own_fields().len().max(1));
             record.fields[field] = near_an_end(chance, kind, field, header[0], header[1]);
         }
         _ => {}

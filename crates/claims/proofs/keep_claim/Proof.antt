@@ -4,9 +4,9 @@ use Rattle.claims.proofs.keep_claim.Statement.{statement}
 use Rattle.claims.proofs.keep_claim.Tie as tie
 use Rattle.claims.proofs.keep_claim.Reads as reads
 use Rattle.claims.proofs.keep_claim.Lts as lts
-use Rattle.reasons.proofs.claim_of.Reads as claim-of-reads
 use Rattle.claims.proofs.facts_at.Reads as facts-at-reads
 use Rattle.claims.proofs.file_line.Reads as file-line-reads
+use Rattle.reasons.proofs.claim_of.Reads as claim-of-reads
 use Rattle.reasons.proofs.reason_of.Reads as reason-of-reads
 use Rattle.rows.proofs.index.Reads as index-reads
 
@@ -37,6 +37,18 @@ facts-at-requires c κs = search (line-laws, needs)
 reason-of-requires : tie.Need-reason-of-requires
 reason-of-requires c κs = search (line-laws, needs)
 
+mul-traded : tie.Need-mul-traded
+mul-traded c = search (line-laws, needs)
+
+add-traded : tie.Need-add-traded
+add-traded c = search (line-laws, needs)
+
+mul-traded-2 : tie.Need-mul-traded-2
+mul-traded-2 c = search (line-laws, needs)
+
+element-copy-out-traded : tie.Need-element-copy-out-traded
+element-copy-out-traded c = search (line-laws, needs)
+
 array-read-claim-of : tie.Need-array-read-claim-of
 array-read-claim-of c = search (line-laws, needs)
 
@@ -55,19 +67,19 @@ element-copy-out-claim-of c = search (line-laws, needs)
 claim-of-requires : tie.Need-claim-of-requires
 claim-of-requires c κs = search (line-laws, needs)
 
-array-read-t20 : tie.Need-array-read-t20
-array-read-t20 c = search (line-laws, needs)
+array-read-t21 : tie.Need-array-read-t21
+array-read-t21 c = search (line-laws, needs)
 
-array-read-t32 : tie.Need-array-read-t32
-array-read-t32 c = search (line-laws, needs)
+array-read-t35 : tie.Need-array-read-t35
+array-read-t35 c = search (line-laws, needs)
 
-array-read-t41 : tie.Need-array-read-t41
-array-read-t41 c = search (line-laws, needs)
+array-read-t44 : tie.Need-array-read-t44
+array-read-t44 c = search (line-laws, needs)
 
 file-line-requires : tie.Need-file-line-requires
 file-line-requires c κs =
     let judged = c .before in
-    let reasoned = judged .before .before in
+    let reasoned = judged .before .before .before in
     let sender = reasoned .before .before in
     let order = sender .before .before .before in
     let given = order .before .before .pre in
@@ -94,15 +106,19 @@ keep-claim-spec =
     array-read-facts-at
     facts-at-requires
     reason-of-requires
+    mul-traded
+    add-traded
+    mul-traded-2
+    element-copy-out-traded
     array-read-claim-of
     mul-claim-of
     add-claim-of
     mul-claim-of-2
     element-copy-out-claim-of
     claim-of-requires
-    array-read-t20
-    array-read-t32
-    array-read-t41
+    array-read-t21
+    array-read-t35
+    array-read-t44
     file-line-requires
     add-result
     returns-2)

@@ -4,9 +4,9 @@ use Rattle.trades.proofs.keep_trade.Statement.{statement}
 use Rattle.trades.proofs.keep_trade.Tie as tie
 use Rattle.trades.proofs.keep_trade.Reads as reads
 use Rattle.trades.proofs.keep_trade.Lts as lts
+use Rattle.rows.proofs.bit_of.Reads as bit-of-reads
 use Rattle.rows.proofs.index.Reads as index-reads
 use Rattle.rows.proofs.put_row.Reads as put-row-reads
-use Rattle.rows.proofs.bit_of.Reads as bit-of-reads
 use Rattle.trades.proofs.is_capped.Reads as is-capped-reads
 use Rattle.trades.proofs.keep_snaps.Reads as keep-snaps-reads
 
@@ -37,23 +37,26 @@ bit-of-requires c κs = search (trade-laws, needs)
 bit-of-requires-2 : tie.Need-bit-of-requires-2
 bit-of-requires-2 c κs = search (trade-laws, needs)
 
+bit-of-requires-3 : tie.Need-bit-of-requires-3
+bit-of-requires-3 c κs = search (trade-laws, needs)
+
 array-read-report : tie.Need-array-read-report
 array-read-report c = search (trade-laws, needs)
 
 add-report : tie.Need-add-report
 add-report c = search (trade-laws, needs)
 
-array-read-t23 : tie.Need-array-read-t23
-array-read-t23 c = search (trade-laws, needs)
-
-array-read-t37 : tie.Need-array-read-t37
-array-read-t37 c = search (trade-laws, needs)
+array-read-t26 : tie.Need-array-read-t26
+array-read-t26 c = search (trade-laws, needs)
 
 array-read-t40 : tie.Need-array-read-t40
 array-read-t40 c = search (trade-laws, needs)
 
 array-read-t43 : tie.Need-array-read-t43
 array-read-t43 c = search (trade-laws, needs)
+
+array-read-t46 : tie.Need-array-read-t46
+array-read-t46 c = search (trade-laws, needs)
 
 put-row-requires : tie.Need-put-row-requires
 put-row-requires c κs = search (trade-laws, needs)
@@ -63,13 +66,15 @@ add-result c = search (trade-laws, needs)
 
 returns-2 : tie.Need-returns-2
 returns-2 c =
-    let found = c .before .before in
+    let begun = c .before .before in
+    let found = begun .before in
     let capped = found .before in
     let kept = capped .before .before .before in
     let trade = kept .before .before .before .before in
     let given = trade .before .before .pre in
-    trade-taken _ _ _ _ _ _ _ _ _ _ _ _ (given .1 .1 .0) (given .1 .0) (trade .if1 .left) _ _ _ (kept .before .before .index .ensures)
-    (kept .keep-snaps .ensures) _ (capped .before .is-capped .ensures) _ _ (found .bit-of2 .ensures) (capped .bit-of .ensures) (c .put-row .ensures)
+    trade-taken _ _ _ _ _ _ _ _ _ _ _ _ _ (given .1 .1 .0) (given .1 .0) (trade .if1 .left) _ _ _ (kept .before .before .index .ensures)
+    (kept .keep-snaps .ensures) _ (capped .before .is-capped .ensures) _ _ _ (found .bit-of2 .ensures) (capped .bit-of .ensures) (begun .bit-of3 .ensures)
+    (c .put-row .ensures)
 
 pub keep-trade-spec : {M : Type 1} → statement M
 keep-trade-spec =
@@ -84,12 +89,13 @@ keep-trade-spec =
     is-capped-requires
     bit-of-requires
     bit-of-requires-2
+    bit-of-requires-3
     array-read-report
     add-report
-    array-read-t23
-    array-read-t37
+    array-read-t26
     array-read-t40
     array-read-t43
+    array-read-t46
     put-row-requires
     add-result
     returns-2)
