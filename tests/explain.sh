@@ -48,7 +48,15 @@ damaged does-not-add-up '\000\036\023\000\012\005\010\000\014'
 damaged late-order-filled '\000\036\024\000\012\005\000\014\000'
 damaged above-the-claim '\000\051\011\000\000\017\010\000\014'
 damaged one-short '\000\036\024\000\011\006\010\000\014'
+cp "$work/told" "$work/short"
 damaged one-moved '\000\035\025\000\013\004\010\000\014'
+
+# What docs/CLERK.md shows of the sheet that is one short.
+sed -n 's/^    \(Trade [0-9]\)/\1/p; s/^    \(  [a-z]\)/\1/p' docs/CLERK.md >"$work/shown"
+[ "$(wc -l <"$work/shown")" -eq 4 ] || { echo 'explain: docs/CLERK.md does not show four lines'; wrong=$((wrong + 1)); }
+while IFS= read -r line; do
+    grep -qxF -e "$line" "$work/short" || { echo "explain: never told: $line"; wrong=$((wrong + 1)); }
+done <"$work/shown"
 
 [ "$tried" -eq "$(ls tests/explain | wc -l)" ] || { echo 'explain: tests/explain has a file that nothing is held to'; wrong=$((wrong + 1)); }
 echo "explain: $tried days told, $wrong wrong"

@@ -1,7 +1,7 @@
 -- A trade on its way down a chain: which order excuses it.
 use mathlib.Core.Path.{_≡_, refl, sym, ap, _∙_}
 use mathlib.Core.Bool.{Bool, true, false, not, _&&_, or-true, or-false}
-use mathlib.Core.List.{List, [], _∷_}
+use mathlib.Core.List.{List}
 use Prim.Native.Nat.{ℕ, zero, suc, _+_, _-_, _*_, _<_, _≤_}
 use native.Mathlib.Omega.{arith}
 use lib.Dec.{eqb, ltb}
@@ -11,7 +11,8 @@ use Rattle.rules.specs.Basics.{_==_, _moreThan_, any, below}
 use Rattle.rules.specs.Record.{order, isSent}
 use Rattle.rules.specs.Journal.{History, count, sentAt}
 use Rattle.rules.specs.Reasons.{excuseWait, excuses, hadSent}
-use Rattle.rules.proofs.Tests.{byTest, bit-is, any-append}
+use Rattle.rules.proofs.Tests.{byTest, bit-is}
+use Rattle.rules.proofs.Below.{one-more-tried}
 use Rattle.quotes.specs.Tables.{Within, RowIs}
 use Rattle.excuses.specs.Excuses.{stands, newest, excuserOf, Excused, chainOf, Link, Chains, excusing, Looking, ExcuserIs}
 use Rattle.excuses.proofs.Words.{ended-not-excusing}
@@ -39,7 +40,7 @@ module _ (f : ℕ → Bool) where
   unfolding below any newest
   any-newest zero = refl
   any-newest (suc n) =
-      any-append f (below n) (n ∷ []) ∙ byTest (f n) (λ p. rw (p, or-true) (sym (ap not (ne-eqb (suc n) 0 (λ z. omega arith))))) (λ p. rw (p, or-false) (any-newest n))
+      one-more-tried f n ∙ byTest (f n) (λ p. rw (p, or-true) (sym (ap not (ne-eqb (suc n) 0 (λ z. omega arith))))) (λ p. rw (p, or-false) (any-newest n))
 
 -- reason 2 asks whether there is one
 pub had-sent-excuser : (x s side now : ℕ) (past : History) → hadSent x s side now past ≡ not (excuserOf x s side now past == 0)
