@@ -1,39 +1,75 @@
-# The text form of a journal: a line for the header and one for each record, every number after its name. One table of names
-# serves both ways. With way=numbers a text becomes the lines of numbers that the program encode reads, each with its line
-# number in front and filled up to one length; with way=text the lines of numbers of the program decode become a text.
+# The text form of a journal: a line for the header and one for each record, every value after its name. One table of names and one of
+# words serve both ways. With way=numbers a text becomes the lines of numbers that the program encode reads, each with its line number
+# in front and filled up to one length; with way=text the lines of numbers of the program decode become a text.
 
 BEGIN {
     kinds = split("quote status trade sent response received satisfaction - closing", kind, " ")
+    # "when" is "after" with milliseconds since the record before, or "at" with a clock time
     names["header"] = "home exchanges close sizes"
-    names["quote"] = "after exchange series bid size customers offer size customers"
-    names["status"] = "after exchange state"
-    names["trade"] = "after series price size form complex initiator delay"
-    names["sent"] = "after type to series side price size"
-    names["response"] = "after order filled"
-    names["received"] = "after type from series side price size"
-    names["satisfaction"] = "after trade from price size"
-    names["closing"] = "after"
+    names["quote"] = "when exchange series bid size customers offer size customers"
+    names["status"] = "when exchange state"
+    names["trade"] = "when series price size form complex initiator delay"
+    names["sent"] = "when type to series side price size"
+    names["response"] = "when order filled"
+    names["received"] = "when type from series side price size"
+    names["satisfaction"] = "when trade from price size"
+    names["closing"] = "when"
     for (k = 1; k <= kinds; k++) if (kind[k] in names) {
         number[kind[k]] = k
         known = known ", " kind[k]
     }
+    # the words for a value's numbers, from 0 on
+    words["state"] = "firm non-firm rotation"
+    words["form"] = "none cross other"
+    words["complex"] = "no yes"
+    words["initiator"] = "none"
+    words["type"] = "- P/A principal"
+    words["side"] = "- buy sell"
+    for (w in words) learn(w)
+    second = 1000
+    minute = 60 * second
+    hour = 60 * minute
+    day = 24 * hour
+    any_clock = "a clock time (0:00 to 23:59:59.999)"
+    choices["close"] = any_clock
     most_exchanges = 8
     most_fields = 8
     line_length = 256
 }
 
+# What has a capital in the table may be written without it.
+function learn(name,    i, n, word, all) {
+    n = split(words[name], word, " ")
+    for (i = 1; i <= n; i++) if (word[i] != "-") {
+        word_of[name, i - 1] = word[i]
+        number_of[name, word[i]] = number_of[name, tolower(word[i])] = i - 1
+        all = all ", " word[i]
+    }
+    choices[name] = substr(all, 3)
+}
+
+function clock(ms) {
+    return sprintf("%02d:%02d:%02d.%03d", int(ms / hour), int(ms / minute) % 60, int(ms / second) % 60, ms % second)
+}
+
 # ---- from numbers to text
+
+function told(name, n) {
+    if (name == "when") return "at " clock(time += n)
+    if (name == "close") return name " " clock(n)
+    return name " " ((name, n) in word_of ? word_of[name, n] : n)
+}
 
 function spelled(what, first,    i, n, name, text) {
     n = split(names[what], name, " ")
     text = what
-    for (i = 1; i <= n; i++) text = text " " name[i] (name[i] == "sizes" ? "" : " " $(first + i - 1))
+    for (i = 1; i <= n; i++) text = text " " told(name[i], $(first + i - 1))
     return text
 }
 
 way == "text" && NR == 1 {
     text = spelled("header", 1)
-    for (i = 4; i <= NF; i++) text = text " " $i
+    for (i = 5; i <= NF; i++) text = text " " $i
     print text
     next
 }
@@ -58,8 +94,7 @@ function found(i,    word) {
 }
 
 # A number without zeros in front. One with more than ten digits is as unstorable as the largest that has ten.
-function figures(i,    digits) {
-    digits = $i
+function figures(digits) {
     sub(/^0+/, "", digits)
     if (digits == "") return "0"
     return length(digits) > 10 ? "9999999999" : digits
@@ -67,29 +102,71 @@ function figures(i,    digits) {
 
 function is_number(i) { return i <= NF && $i ~ /^[0-9]+$/ }
 
+# Hours and minutes, then seconds or none, then a decimal fraction of a second or none, to the millisecond at most.
+function is_clock(i) {
+    return $i ~ /^([01]?[0-9]|2[0-3]):[0-5][0-9](:[0-5][0-9](\.[0-9][0-9]?[0-9]?)?)?$/
+}
+
+# A clock time in milliseconds after midnight. No part is read with zeros in front, which is octal to some awks, nor the fraction as
+# one, since 0.001 is no exact number here.
+function midnight_to(i,    part) {
+    split($i, part, /[:.]/)
+    return figures(part[1]) * hour + figures(part[2]) * minute + figures(part[3]) * second + figures(substr(part[4] "000", 1, 3))
+}
+
 function put(row) { printf "%-" (line_length - 1) "s\n", NR " " row }
+
+# Milliseconds since the record before. Where the day's time has passed, the program refuses the line by which it did; a clock time
+# after that line is held against nothing.
+function elapsed(name, i,    now, ms) {
+    if (name == "after") ms = value(name, i)
+    else {
+        if (!is_clock(i)) return fault("expected " any_clock " after \"at\", found " found(i))
+        now = midnight_to(i)
+        if (now < time && time < day) return fault(clock(now) " is before the record before it, at " clock(time))
+        ms = now < time ? 0 : now - time
+    }
+    time += ms
+    return ms
+}
+
+# The number of a value that stands as a number, as one of its name's words or, for the close, as a clock time.
+function value(name, i) {
+    if (is_number(i)) return figures($i)
+    if ((name, $i) in number_of) return number_of[name, $i]
+    if (name == "close" && is_clock(i)) return midnight_to(i)
+    return fault("expected " (name in choices ? choices[name] " or " : "") "a number after \"" name "\", found " found(i))
+}
+
+function unexpected(i, wanted) {
+    return fault(i > NF ? "expected " wanted ", found the end of the line" : "unknown word " found(i) ", expected " wanted)
+}
 
 # The numbers from field 3 on, each after its name; "sizes" is a name with as many as follow.
 function numbers_of(what,    i, n, name, at, row) {
     n = split(names[what], name, " ")
     at = 2
     for (i = 1; i <= n; i++) {
-        if ($at != name[i]) return fault(at > NF ? "expected \"" name[i] "\", found the end of the line" : "unknown word " found(at) ", expected \"" name[i] "\"")
-        if (name[i] == "sizes") return row sizes(at + 1)
-        if (!is_number(at + 1)) return fault("expected a number after \"" name[i] "\", found " found(at + 1))
-        row = row figures(at + 1) " "
+        if (name[i] == "when") {
+            if ($at != "after" && $at != "at") return unexpected(at, "\"after\" or \"at\"")
+            row = row elapsed($at, at + 1) " "
+        } else {
+            if ($at != name[i]) return unexpected(at, "\"" name[i] "\"")
+            if (name[i] == "sizes") return row sizes(at + 1)
+            row = row value(name[i], at + 1) " "
+        }
         at += 2
     }
-    if (at <= NF) return fault("unknown word " found(at) ", expected the end of the line")
+    if (at <= NF) return unexpected(at, "the end of the line")
     return row
 }
 
 # Two for each exchange, zeros up to the most. How many exchanges there may be is the header writer's to judge.
 function sizes(first,    i, n, row) {
     for (i = first; i <= NF; i++) if (!is_number(i)) return fault("expected a number after \"sizes\", found " found(i))
-    n = $5 + 0
+    n = figures($5) + 0
     if (n >= 2 && n <= most_exchanges && NF - first + 1 != 2 * n) return fault("expected " (2 * n) " sizes, found " (NF - first + 1))
-    for (i = first; i < first + 2 * most_exchanges; i++) row = row (i <= NF ? figures(i) : 0) " "
+    for (i = first; i < first + 2 * most_exchanges; i++) row = row (i <= NF ? figures($i) : 0) " "
     return row
 }
 

@@ -1,8 +1,11 @@
 #!/bin/sh
 # The reference shares no code with the proved crates. It agrees with the vectors, with every answer that the program `ask` is held
-# to, and with what `ask` answers to random, damaged and extreme questions, some thousands by a fixed seed.
+# to, and with what `ask` answers to random, damaged and extreme questions, some thousands by a fixed seed. It needs rustc, and the cc
+# that rustc links with; without them it is left out, and that is said (.ci/run).
 set -eu
-command -v rustc >/dev/null 2>&1 || { echo "no rustc on this machine: the reference is left out"; exit 0; }
+for tool in rustc cc; do
+    command -v "$tool" >/dev/null || { echo "left out: tests/reference.sh: there is no $tool"; exit 77; }
+done
 here=$(cd "$(dirname "$0")/.." && pwd -P)
 cd "$here"
 work=$(mktemp -d)
@@ -10,14 +13,18 @@ trap 'rm -rf "$work"' EXIT
 rustc -O --edition 2021 --crate-type rlib --crate-name reference --out-dir "$work" reference/src/lib.rs
 rustc -O --edition 2021 --extern "reference=$work/libreference.rlib" -o "$work/reference" reference/src/main.rs
 "$work/reference" vectors tests/vectors
-"$work/reference" answer < crates/ask/stdin | cmp - crates/ask/stdout
+[ -s crates/ask/stdin ] || { echo 'crates/ask/stdin has no question'; exit 1; }
+"$work/reference" answer <crates/ask/stdin >"$work/answers"
+cmp "$work/answers" crates/ask/stdout
 echo "the reference answers ask's questions with the same bytes"
 
 # A difference is written down where the run is, so it runs in the temporary folder and what it wrote is shown.
 cd "$work"
-if ! timeout 600 ./reference fuzz sh "$here/tests/run-program" ask --seed 1 --count 4000 >said; then
+count=4000
+if ! timeout 600 ./reference fuzz sh "$here/tests/run-program" ask --seed 1 --count "$count" >said; then
     cat said difference-*.txt 2>/dev/null || true
     echo "the proved program and the reference differ, or the run took over ten minutes"
     exit 1
 fi
-grep '^op \|^seed ' said
+grep -E '^(op|seed) ' said
+grep -qx "seed 1: $count questions, 0 differences" said

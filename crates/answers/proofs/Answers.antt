@@ -75,7 +75,7 @@ whole-printed cl tr trades lines rows listed fills own out out2 w wrote r er =
 
 -- ---- a journal that is refused
 
-module _ (s lent tr cl list : List ℕ) (v : Surveyed) (sv : SurveyedAs s lent tr cl list v) where
+module _ (s lent tr snaps cl list : List ℕ) (v : Surveyed) (sv : SurveyedAs s lent tr snaps cl list v) where
   module _ (n p : ℕ) (e : v ≡ Stopped n p) (out : List ℕ) where
     pub day-refused : leftBy (Unwritten n p) out ≡ leaves (writeDay s (length out)) out
     unfolding writeDay _>>=_
@@ -91,7 +91,7 @@ module _ (s lent tr cl list : List ℕ) (v : Surveyed) (sv : SurveyedAs s lent t
   -- ---- a journal that is accepted
 
   module _ (trades lines listed : ℕ) (e : v ≡ Whole trades lines listed) where
-    told : Told s tr cl list trades lines listed
+    told : Told s tr snaps cl list trades lines listed
     told = sv .whole trades lines listed e
 
     pub few-trades : trades ≤ mostTrades

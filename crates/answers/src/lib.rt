@@ -51,9 +51,10 @@ pub fn print_day(s: &[u8], out: &mut [u8]) -> Rewritten
     ensures { λ r. ⌜ leftBy r (now (out .exit)) ≡ leaves (writeDay (now (s .entry)) (length (now (out .entry)))) (now (out .entry)) ⌝ }
 {
     let mut tr = [0u32; 1024];
+    let mut snaps = [0u32; 8192];
     let mut cl = [0u32; 6144];
     let mut rows = [0u32; Row::MOST * Row::WORDS];
-    match survey::survey(s, &mut tr, &mut cl, &mut rows) {
+    match survey::survey(s, &mut tr, &mut snaps, &mut cl, &mut rows) {
         Surveyed::Stopped { no, place } => Rewritten::Unwritten { no, place },
         Surveyed::Whole {
             trades,
@@ -68,9 +69,10 @@ pub fn write_sheet(s: &[u8], out: &mut [u8]) -> Rewritten
     ensures { λ r. ⌜ leftBy r (now (out .exit)) ≡ leaves (writeSheet (now (s .entry)) (length (now (out .entry)))) (now (out .entry)) ⌝ }
 {
     let mut tr = [0u32; 1024];
+    let mut snaps = [0u32; 8192];
     let mut cl = [0u32; 6144];
     let mut rows = [0u32; 1];
-    match survey::survey(s, &mut tr, &mut cl, &mut rows) {
+    match survey::survey(s, &mut tr, &mut snaps, &mut cl, &mut rows) {
         Surveyed::Stopped { no, place } => Rewritten::Unwritten { no, place },
         Surveyed::Whole {
             trades,
@@ -85,9 +87,10 @@ pub fn check_sheet(s: &[u8], sheet: &[u8]) -> Checked
     ensures { λ r. ⌜ checkedAs r ≡ checkSheet (now (s .entry)) (now (sheet .entry)) ⌝ }
 {
     let mut tr = [0u32; 1024];
+    let mut snaps = [0u32; 8192];
     let mut cl = [0u32; 6144];
     let mut rows = [0u32; 1];
-    match survey::survey(s, &mut tr, &mut cl, &mut rows) {
+    match survey::survey(s, &mut tr, &mut snaps, &mut cl, &mut rows) {
         Surveyed::Stopped { no, place } => Checked::Refused { no, place },
         Surveyed::Whole {
             trades,

@@ -14,7 +14,7 @@ use Rattle.said.specs.declared.Checked.{Checked}
 use Rattle.said.specs.declared.Checked.the-variants.{Accepted, Refused}
 use Rattle.checker.specs.Beside.{besides}
 
--- the paper's number and place for each answer
+-- the answer of the check in memory: yes, or the refusal's number and place
 abbrev pub checkedAs : Checked → Answer Passed
 checkedAs Accepted = ok tt
 checkedAs (Refused number place) = refused number place

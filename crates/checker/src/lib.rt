@@ -77,7 +77,7 @@ fn check_lines(cl: &[u32; 6144], said: &[u32; 1536], n: usize) -> Checked
 }
 
 // What the sheet fills on trade m's lines, in their order.
-fn gather_fills(cl: &[u32; 6144], n: usize, said: &[u32; 1536], m: usize, fill: &mut [u32; 8])
+pub fn gather_fills(cl: &[u32; 6144], n: usize, said: &[u32; 1536], m: usize, fill: &mut [u32; 8])
     requires { ⌜ (m < mostTrades) × Filing (now cl) n ⌝ }
     requires { ⌜ length (now fill) ≡ 8 ⌝ }
     ensures { λ _. ⌜ FillsGathered (now (cl .entry)) (now (said .entry)) m (now (fill .exit)) ⌝ }

@@ -8,26 +8,16 @@ use Rattle.rules.specs.Header.{Header}
 use Rattle.rules.specs.Record.{Event, satisfaction}
 use Rattle.rules.specs.Journal.{History, tradeAt, beforeTrade}
 use Rattle.rules.specs.Prices.{statusOf}
-use Rattle.rules.specs.Verdicts.{sideThrough}
-use Rattle.rules.specs.Reasons.{Case, caseOf, senderQuote, senderSide, customers, reason}
+use Rattle.rules.specs.Reasons.{caseOf, customers, reason}
 use Rattle.rules.specs.Due.{claim}
 use Rattle.trades.specs.Trades.{snap, snapAt, Traded}
 use Rattle.reasons.specs.Reasons.{reasonOf, claimOf}
 use Rattle.reasons.proofs.Judge.{factsIn, reason-words, customers-words, claim-words}
 use Rattle.claims.specs.Facts.{factsOf}
-use Rattle.claims.specs.Lines.{priceThere}
 
 status-word : (e : Event) (before : History) (y : ℕ) → getD (snapAt e before y) 3 0 ≡ statusOf (y + 1) before
 unfolding snap
 status-word e before y = refl
-
-side-word : (k : Case) (y : ℕ) → (satisfaction (k .claim)) .sender ≡ y + 1 → getD (snapAt (k .trade) (k .before) y) 0 0 ≡ senderSide k
-unfolding snap senderSide sideThrough
-side-word k y es = rw es
-
-there-word : (k : Case) (y : ℕ) → (satisfaction (k .claim)) .sender ≡ y + 1 → getD (snapAt (k .trade) (k .before) y) 1 0 ≡ priceThere k
-unfolding snap senderSide senderQuote sideThrough priceThere
-there-word k y es = rw es
 
 module _ (h : Header) (past : History) (tr sn : List ℕ) (trades m y home : ℕ) (held : Traded h past tr sn trades) (hm : m < trades)
     (hy : y < h .exchanges) (eh : h .home ≡ home) (low : 1 ≤ home) (high : home ≤ h .exchanges)
@@ -66,12 +56,6 @@ module _ (h : Header) (past : History) (tr sn : List ℕ) (trades m y home : ℕ
 
   pub customers-are : getD sn ((m * 8 + y) * 8 + 2) 0 ≡ customers (caseOf past e)
   customers-are = rw (held .snaps m y 2 hm hy (omega arith), case-is) (sym (customers-words h (record { claim = e; trade = tradeAt m past; before = beforeTrade m past }) y es))
-
-  pub side-is : getD sn ((m * 8 + y) * 8 + 0) 0 ≡ senderSide (caseOf past e)
-  side-is = rw (held .snaps m y 0 hm hy (omega arith), case-is) (side-word _ y es)
-
-  pub there-is : getD sn ((m * 8 + y) * 8 + 1) 0 ≡ priceThere (caseOf past e)
-  there-is = rw (held .snaps m y 1 hm hy (omega arith), case-is) (there-word _ y es)
 
   pub claim-is : (why contracts size : ℕ) → why ≡ reason h (caseOf past e) → contracts ≡ customers (caseOf past e) → (satisfaction e) .size ≡ size
       → claimOf why size contracts (getD tr (m * 8 + 1) 0) (getD tr (m * 8 + 7) 0) ≡ claim h (caseOf past e)

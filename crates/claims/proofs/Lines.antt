@@ -26,7 +26,7 @@ use Rattle.reasons.specs.declared.Facts.{Facts}
 use Rattle.reasons.specs.Reasons.{reasonOf, claimOf}
 use Rattle.claims.specs.Facts.{factsOf}
 use Rattle.claims.specs.Lines.{lineAt, linesFrom, numberAt, manyOf, sumOf, tradeLines, Told, Lined, Filing, Fileable, Filed, Placed, ClaimsStep}
-use Rattle.claims.proofs.Facts.{reason-is, customers-are, side-is, there-is, claim-is}
+use Rattle.claims.proofs.Facts.{reason-is, customers-are, claim-is}
 
 -- ---- one line more at the end
 
@@ -113,12 +113,12 @@ pub lines-new : (h : Header) (e : Event) (past : History) → e .kind ≡ satisf
 unfolding linesOf
 lines-new h e past k = rw (eq-eqb (e .kind) satisfactionKind k)
 
-line-is : (u : List ℕ) (n why contracts due sender side there : ℕ) (r : Rec) (h : Header) (e : Event) (past : History) → Reads e r
-    → ((i : ℕ) → i < 8 → getD u (n * 8 + i) 0 ≡ getD (word r 0 ∷ word r 3 ∷ why ∷ contracts ∷ due ∷ sender ∷ side ∷ there ∷ []) i 0)
+line-is : (u : List ℕ) (n why contracts due : ℕ) (r : Rec) (h : Header) (e : Event) (past : History) → Reads e r
+    → ((i : ℕ) → i < 8 → getD u (n * 8 + i) 0 ≡ getD (word r 0 ∷ word r 3 ∷ why ∷ contracts ∷ due ∷ word r 1 ∷ word r 2 ∷ r .time ∷ []) i 0)
     → why ≡ reason h (caseOf past e) → contracts ≡ customers (caseOf past e) → due ≡ claim h (caseOf past e)
     → lineAt u n ≡ lineOf h past n e
 unfolding lineOf
-line-is u n why contracts due sender side there r h e past rd here a b c =
+line-is u n why contracts due r h e past rd here a b c =
     rw (
       here 0 (omega arith),
       here 1 (omega arith),
@@ -218,7 +218,7 @@ module _ (r : Rec) (home exchanges close : ℕ) (tr sn : List ℕ) (trades : ℕ
     claim-small : due ≤ 100000
     claim-small = omega (arith, claim-at-most-size why (word r 3) (k .customers) (getD tr (m * 8 + 1) 0) (getD tr (m * 8 + 7) 0), pl .fields kind .size, ed)
 
-    pub order-fileable : Fileable cl (word r 0 ∷ word r 3 ∷ why ∷ k .customers ∷ due ∷ word r 1 ∷ k .side ∷ k .there ∷ []) n m
+    pub order-fileable : Fileable cl (word r 0 ∷ word r 3 ∷ why ∷ k .customers ∷ due ∷ word r 1 ∷ word r 2 ∷ r .time ∷ []) n m
     unfolding manyOf sumOf
     order-fileable =
         record {
@@ -230,7 +230,7 @@ module _ (r : Rec) (home exchanges close : ℕ) (tr sn : List ℕ) (trades : ℕ
           long = fi .long;
         }
 
-    module _ (cl2 : List ℕ) (f : Filed cl cl2 (word r 0 ∷ word r 3 ∷ why ∷ k .customers ∷ due ∷ word r 1 ∷ k .side ∷ k .there ∷ []) n m) where
+    module _ (cl2 : List ℕ) (f : Filed cl cl2 (word r 0 ∷ word r 3 ∷ why ∷ k .customers ∷ due ∷ word r 1 ∷ word r 2 ∷ r .time ∷ []) n m) where
       line-kept : (j : ℕ) → j < n → lineAt cl2 j ≡ lineAt cl j
       line-kept j hj =
           let low : j < 512 = omega (arith, fi .few) in
@@ -249,8 +249,8 @@ module _ (r : Rec) (home exchanges close : ℕ) (tr sn : List ℕ) (trades : ℕ
           let ne : j ≡ n → ⊥ = λ z. omega arith in
           record {
             sender = f .others j 5 low (omega arith) ne ∙ t .sender;
-            side = f .others j 6 low (omega arith) ne ∙ t .side;
-            there = f .others j 7 low (omega arith) ne ∙ t .there;
+            asked = f .others j 6 low (omega arith) ne ∙ t .asked;
+            time = f .others j 7 low (omega arith) ne ∙ t .time;
           }
 
       -- ---- the table alone
@@ -324,16 +324,11 @@ module _ (r : Rec) (home exchanges close : ℕ) (tr sn : List ℕ) (trades : ℕ
             why (k .customers) (word r 3) why-is contracts-are (sym (rd .fields 3))
 
         newest-told : Told cl2 n (record { event = e; before = past })
-        unfolding factsOf
         newest-told =
             record {
               sender = f .here 5 (omega arith) ∙ rd .fields 1;
-              side =
-                  f .here 6 (omega arith) ∙ ap (λ (f : Facts). f .side) ek
-                  ∙ side-is h past tr sn trades m (x - 1) home tv known sends (is .home) (ok .from-one) home-in e names-trade names-sender;
-              there =
-                  f .here 7 (omega arith) ∙ ap (λ (f : Facts). f .there) ek
-                  ∙ there-is h past tr sn trades m (x - 1) home tv known sends (is .home) (ok .from-one) home-in e names-trade names-sender;
+              asked = f .here 6 (omega arith) ∙ rd .fields 2;
+              time = f .here 7 (omega arith) ∙ sym (rd .time);
             }
 
         told-after : (i : ℕ) → i < n + 1 → Told cl2 i (nth isSatisfaction i (e ∷ past))
@@ -346,7 +341,7 @@ module _ (r : Rec) (home exchanges close : ℕ) (tr sn : List ℕ) (trades : ℕ
             rw (nth-older isSatisfaction i e past (omega (arith, held .numbered))) (told-kept i old (held .told i old)))
 
         newest-line : lineAt cl2 n ≡ lineOf h past n e
-        newest-line = line-is cl2 n why (k .customers) due (word r 1) (k .side) (k .there) r h e past rd (f .here) why-is contracts-are due-is
+        newest-line = line-is cl2 n why (k .customers) due r h e past rd (f .here) why-is contracts-are due-is
 
         all-lines : linesOf h (e ∷ past) ≡ linesOf h past ++ (lineOf h past n e ∷ [])
         all-lines =

@@ -1,6 +1,6 @@
 -- The table of Satisfaction Orders: a row of eight words for each (trade, size, reason, customer contracts, claim), and behind them
 -- for each trade the numbers of its lines in their order, how many they are, and the sum of their claims. The row's last three words
--- (sender, side traded through, price there) are what a clerk is told beside them: no verdict looks at them.
+-- (sender, its own price, when it came) are what a clerk is told beside them: no verdict looks at them.
 use mathlib.Core.Path.{_≡_}
 use mathlib.Core.List.{List, _∷_, map}
 use Prim.Native.Nat.{ℕ, _+_, _*_, _<_, _≤_}
@@ -10,12 +10,11 @@ use Rattle.rules.specs.Limits.{mostTrades, mostSatisfactionOrders, mostContract
 use Rattle.rules.specs.Header.{Header}
 use Rattle.rules.specs.Record.{Event, satisfaction, isSatisfaction, satisfactionKind}
 use Rattle.rules.specs.Journal.{History, Happened, count, nth}
-use Rattle.rules.specs.Reasons.{Case, caseOf, senderQuote, senderSide}
 use Rattle.rules.specs.Due.{Line, linesOf, ofTrade, claimsOf, customersOf, due}
 use Rattle.rows.specs.Rows.{Reads, word, SatisfactionOk}
 use Rattle.rows.specs.declared.Rec.{Rec}
 use Rattle.orders.specs.Orders.{Heads}
-use Rattle.trades.specs.Trades.{priceOn, Traded}
+use Rattle.trades.specs.Trades.{Traded}
 
 abbrev pub lineAt : List ℕ → ℕ → Line
 lineAt cl k =
@@ -49,15 +48,11 @@ tradeLines cl m k = map (λ i. lineAt cl (numberAt cl m i)) (below k)
 
 -- ---- what a clerk is told
 
--- the price on the side traded through
-unfoldable pub priceThere : Case → ℕ
-priceThere k = priceOn (senderSide k) ((senderQuote k) .bid) ((senderQuote k) .offer)
-
 -- row i, of the Satisfaction Order that came so
 pub record Told (cl : List ℕ) (i : ℕ) (order : Happened) : Type 0 where
   pub sender : getD cl (i * 8 + 5) 0 ≡ (satisfaction (order .event)) .sender
-  pub side : getD cl (i * 8 + 6) 0 ≡ senderSide (caseOf (order .before) (order .event))
-  pub there : getD cl (i * 8 + 7) 0 ≡ priceThere (caseOf (order .before) (order .event))
+  pub asked : getD cl (i * 8 + 6) 0 ≡ (satisfaction (order .event)) .price
+  pub time : getD cl (i * 8 + 7) 0 ≡ order .event .time
 
 -- ---- the table beside the history
 

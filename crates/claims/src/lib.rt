@@ -28,12 +28,12 @@ impl Line {
 
     pub const CLAIM: usize = 4;
 
-    // For a clerk, and no verdict looks at them: the sender, which of its sides was traded through, and the price there.
+    // For a clerk, and no verdict looks at them: the order's sender, its own price, and when it came.
     pub const SENDER: usize = 5;
 
-    pub const SIDE: usize = 6;
+    pub const ASKED: usize = 6;
 
-    pub const THERE: usize = 7;
+    pub const TIME: usize = 7;
 
     // Where the trades' rows of numbers begin, and those of sums.
     pub const NUMBERS: usize = SatisfactionOrder::MOST;
@@ -62,7 +62,7 @@ fn facts_at(
         there: sn[at + Snap::PRICE],
         customers: sn[at + Snap::CUSTOMERS],
         status: sn[at + Snap::STATUS],
-        excused: sn[at + Snap::EXCUSED],
+        excuser: sn[at + Snap::EXCUSER],
         home: sn[(m * 8 + (home - 1)) * 8 + Snap::STATUS],
         price: tr[of + Kept::PRICE],
         block: tr[of + Kept::BLOCK],
@@ -114,19 +114,14 @@ pub fn keep_claim(
     let row = r.row;
     let m = rows::index(row[0]);
     let y = rows::index(row[1]) - 1;
-    let k = facts_at(tr, sn, m, y, seat.home, seat.close, row[2], r.time);
+    let time = r.time;
+    let k = facts_at(tr, sn, m, y, seat.home, seat.close, row[2], time);
     let customers = k.customers;
-    let side = k.side;
-    let there = k.there;
     let why = reasons::reason_of(k);
     let traded = tr[m * 8 + Kept::SIZE];
     let claim = reasons::claim_of(why, row[3], customers, traded, tr[m * 8 + Kept::CLOSING]);
-    file_line(
-        cl,
-        n,
-        m,
-        [row[0], row[3], why, customers, claim, row[1], side, there],
-    );
+    let line = [row[0], row[3], why, customers, claim, row[1], row[2], time];
+    file_line(cl, n, m, line);
     n + 1
 }
 

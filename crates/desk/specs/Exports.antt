@@ -30,11 +30,11 @@ pub record Gives (answer : Answer (List ℕ)) (before : List ℕ) (r : ℕ) (aft
   pub code : r ≡ codeOf (counted answer)
   pub lent : after ≡ lentAfter answer before
 
--- the day totals in the order of their words
+-- the day totals as words in memory: sent, filled, cancelled, pending
 abbrev pub totalsWords : Totals → List ℕ
 totalsWords t = t .sent ∷ t .filled ∷ t .cancelled ∷ t .pending ∷ []
 
--- the journal's refusal, then 9
+-- these words, for so much room: the journal's refusal, then 9
 unfoldable pub writeTotals : List ℕ → ℕ → Answer (List ℕ)
 writeTotals bytes room = do
   t ← dayTotals bytes

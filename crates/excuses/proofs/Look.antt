@@ -1,22 +1,51 @@
--- A trade on its way down a chain: whether some order excuses it.
-use mathlib.Core.Path.{_≡_, refl, sym, _∙_}
-use mathlib.Core.Bool.{Bool, true, false, _&&_}
+-- A trade on its way down a chain: which order excuses it.
+use mathlib.Core.Path.{_≡_, refl, sym, ap, _∙_}
+use mathlib.Core.Bool.{Bool, true, false, not, _&&_, or-true, or-false}
 use mathlib.Core.List.{List}
-use Prim.Native.Nat.{ℕ, _+_, _-_, _*_, _<_, _≤_}
+use Prim.Native.Nat.{ℕ, zero, suc, _+_, _-_, _*_, _<_, _≤_}
 use native.Mathlib.Omega.{arith}
 use lib.Dec.{eqb, ltb}
 use lib.ListN.{getD}
 use borrow.Author.Tests.{eq-eqb, ne-eqb, eqb-true, eqb-false, ltb-true, ltb-false}
-use Rattle.rules.specs.Basics.{_==_, _moreThan_}
+use Rattle.rules.specs.Basics.{_==_, _moreThan_, any, below}
 use Rattle.rules.specs.Record.{order, isSent}
 use Rattle.rules.specs.Journal.{History, count, sentAt}
 use Rattle.rules.specs.Reasons.{excuseWait, excuses, hadSent}
 use Rattle.rules.proofs.Tests.{byTest, bit-is}
-use Rattle.rules.proofs.Below.{any-below-none, any-below-found}
+use Rattle.rules.proofs.Below.{one-more-tried}
 use Rattle.quotes.specs.Tables.{Within, RowIs}
-use Rattle.excuses.specs.Excuses.{stands, Excused, chainOf, Link, Chains, excusing, Looking, HadSent}
+use Rattle.excuses.specs.Excuses.{stands, newest, excuserOf, Excused, chainOf, Link, Chains, excusing, Looking, ExcuserIs}
 use Rattle.excuses.proofs.Words.{ended-not-excusing}
 use Rattle.excuses.proofs.Sweep.{in-chain, not-in-chain}
+
+-- ---- the newest number that passes a test
+
+module _ (f : ℕ → Bool) where
+  newest-none : (n : ℕ) → ((m : ℕ) → m < n → f m ≡ false) → newest f n ≡ 0
+  unfolding newest
+  newest-none zero none = refl
+  newest-none (suc n) none = rw (none n (omega arith)) (newest-none n (λ m h. none m (omega arith)))
+
+  newest-found : (n i : ℕ) → i < n → f i ≡ true → ((m : ℕ) → i < m → m < n → f m ≡ false) → newest f n ≡ suc i
+  unfolding newest
+  newest-found zero i h e none = absurd (omega arith)
+  newest-found (suc n) i h e none =
+      byTest (eqb i n)
+      (λ q. rw (← eqb-true i n q, e))
+      (λ q. let ne = eqb-false i n q in
+      let low : i < n = omega arith in
+      rw (none n low (omega arith)) (newest-found n i low e (λ m a b. none m a (omega arith))))
+
+  any-newest : (n : ℕ) → any f (below n) ≡ not (newest f n == 0)
+  unfolding below any newest
+  any-newest zero = refl
+  any-newest (suc n) =
+      one-more-tried f n ∙ byTest (f n) (λ p. rw (p, or-true) (sym (ap not (ne-eqb (suc n) 0 (λ z. omega arith))))) (λ p. rw (p, or-false) (any-newest n))
+
+-- reason 2 asks whether there is one
+pub had-sent-excuser : (x s side now : ℕ) (past : History) → hadSent x s side now past ≡ not (excuserOf x s side now past == 0)
+unfolding hadSent excuserOf
+had-sent-excuser x s side now past = any-newest (excuses x s side now past) (count isSent past)
 
 -- ---- what the row of an order says
 
@@ -63,33 +92,34 @@ module _ (t ch : List ℕ) (n x s side now : ℕ) (c : Chains t ch n) (w : Withi
       }
 
   module _ (i : ℕ) (lo : Looking t n ((x - 1) * 32 + s) side now i) where
-    pub look-end : i ≤ 0 → HadSent t n x s side now false
-    unfolding hadSent
-    look-end h =
-        record {
-          so =
-              λ past held. sym (any-below-none _ (count isSent past) (λ m hc.
-              let hm : m < n = omega (arith, held .numbered) in
-              byTest (eqb (chainOf t m) ((x - 1) * 32 + s))
-              (λ z. let p = eqb-true (chainOf t m) ((x - 1) * 32 + s) z in
-              let at = in-chain t m x s (c .rows m hm) w p in
-              in-chain-excuses t n m x s side now hm past held (at .0) (at .1) ∙ lo .none m (omega arith) hm p)
-              (λ z. other-chain-not t n m x s side now hm past held (not-in-chain t m x s (eqb-false (chainOf t m) ((x - 1) * 32 + s) z)))));
-        }
+    none-passed : (past : History) → Excused past t n → (m : ℕ) → i ≤ m → m < count isSent past → excuses x s side now past m ≡ false
+    none-passed past held m h hc =
+        let hm : m < n = omega (arith, held .numbered) in
+        byTest (eqb (chainOf t m) ((x - 1) * 32 + s))
+        (λ z. let p = eqb-true (chainOf t m) ((x - 1) * 32 + s) z in
+        let at = in-chain t m x s (c .rows m hm) w p in
+        in-chain-excuses t n m x s side now hm past held (at .0) (at .1) ∙ lo .none m h hm p)
+        (λ z. other-chain-not t n m x s side now hm past held (not-in-chain t m x s (eqb-false (chainOf t m) ((x - 1) * 32 + s) z)))
+
+    pub look-end : i ≤ 0 → ExcuserIs t n x s side now 0
+    unfolding excuserOf
+    look-end h = record { so = λ past held. sym (newest-none _ (count isSent past) (λ m hc. none-passed past held m (omega arith) hc)) }
 
     module _ (pos : 0 < i) where
       here : i - 1 < n
       here = omega (arith, lo .low)
 
       module _ (b : Bool) (eb : b ≡ excusing (getD t ((i - 1) * 8 + 3) 0) (getD t ((i - 1) * 8 + 6) 0) (getD t ((i - 1) * 8 + 7) 0) side now) where
-        pub look-found : b ≡ true → HadSent t n x s side now true
-        unfolding hadSent
-        look-found p =
+        pub look-found : b ≡ true → (r : ℕ) → r ≡ i → ExcuserIs t n x s side now r
+        unfolding excuserOf
+        look-found p r er =
             let at = in-chain t (i - 1) x s (c .rows (i - 1) here) w (lo .own pos) in
             record {
               so =
-                  λ past held. sym (any-below-found _ (count isSent past) (i - 1) (omega (arith, held .numbered, here))
-                  (in-chain-excuses t n (i - 1) x s side now here past held (at .0) (at .1) ∙ sym eb ∙ p));
+                  λ past held. let above : r ≡ suc (i - 1) = omega arith in
+                  above ∙ sym (newest-found _ (count isSent past) (i - 1) (omega (arith, held .numbered, here))
+                  (in-chain-excuses t n (i - 1) x s side now here past held (at .0) (at .1) ∙ sym eb ∙ p)
+                  (λ m a hc. none-passed past held m (omega arith) hc));
             }
 
         module _ (p : b ≡ false) (j : ℕ) (ej : (j ≡ getD ch (256 + (i - 1)) 0) × (j < 4294967296)) where

@@ -3,7 +3,7 @@
 use mathlib.Core.Path.{_≡_}
 use mathlib.Core.Bool.{Bool, false, not, _&&_, _||_}
 use mathlib.Core.List.{List, _∷_}
-use Prim.Native.Nat.{ℕ, _+_, _-_, _*_, _<_, _≤_}
+use Prim.Native.Nat.{ℕ, zero, suc, _+_, _-_, _*_, _<_, _≤_}
 use lib.ListN.{getD, length}
 use Rattle.rules.specs.Basics.{if_then_else_, _==_, _moreThan_, any, bit}
 use Rattle.rules.specs.Limits.{mostSentOrders}
@@ -11,13 +11,22 @@ use Rattle.rules.specs.Record.{buy, Event, field, order, isSent, sentKind, resp
 use Rattle.rules.specs.Journal.{History, count, since, sentAt}
 use Rattle.rules.specs.Prices.{absent}
 use Rattle.rules.specs.Verdicts.{worse}
-use Rattle.rules.specs.Reasons.{endsExcuse, excuseWait, hadSent}
+use Rattle.rules.specs.Reasons.{endsExcuse, excuseWait, excuses}
 use Rattle.rows.specs.Rows.{Reads, word, QuoteOk, OrderOk}
 use Rattle.rows.specs.declared.Rec.{Rec}
 
 -- nothing since sent order n has ended its excuse
 unfoldable pub stands : ℕ → History → Bool
 stands n past = not (any (endsExcuse n (order (sentAt n past))) (since isSent n past))
+
+-- one above the greatest number below n that passes a test, or 0 where none does
+unfoldable pub newest : (ℕ → Bool) → ℕ → ℕ
+newest f zero = 0
+newest f (suc n) = if f n then suc n else newest f n
+
+-- one above the number of the newest sent order that excuses, or 0 where none does
+unfoldable pub excuserOf : ℕ → ℕ → ℕ → ℕ → History → ℕ
+excuserOf x s side now past = newest (excuses x s side now past) (count isSent past)
 
 -- ---- the table beside the history
 
@@ -122,5 +131,5 @@ pub record ExcusesStep (r : Rec) (t : List ℕ) (n : ℕ) (t2 ch2 : List ℕ) (n
   pub chains : Chains t2 ch2 n2
   pub so : (e : Event) (past : History) → Reads e r → Excused past t n → Excused (e ∷ past) t2 n2
 
-pub record HadSent (t : List ℕ) (n x s side now : ℕ) (r : Bool) : Type 0 where
-  pub so : (past : History) → Excused past t n → r ≡ hadSent x s side now past
+pub record ExcuserIs (t : List ℕ) (n x s side now r : ℕ) : Type 0 where
+  pub so : (past : History) → Excused past t n → r ≡ excuserOf x s side now past

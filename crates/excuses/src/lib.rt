@@ -5,7 +5,7 @@ ghost use lib.ListN.{getD, length};
 ghost use Rattle.rules.specs.Record.{quoteKind, sentKind, responseKind};
 ghost use Rattle.rows.specs.Rows.{word, QuoteOk, OrderOk};
 ghost use Rattle.quotes.specs.Tables.{Within};
-ghost use Rattle.excuses.specs.Excuses.{Chains, Placed, Filled, ExcusesStep, HadSent, backed, outlived, excusing};
+ghost use Rattle.excuses.specs.Excuses.{Chains, Placed, Filled, ExcusesStep, ExcuserIs, backed, outlived, excusing};
 use numbered::SentOrder;
 use rows::Rec;
 use rows::Way;
@@ -158,8 +158,9 @@ fn still_excuses(t: &[u32; 2048], m: usize, side: u32, time: u32) -> bool
 }
 
 // "home had sent the sender an order in the series (sell for a bid, buy for an offer) more than 20,000 ms before the trade, and
-// up to the trade it was neither filled in full nor followed by a quote .. worse than its price or absent on that side"
-pub fn had_sent(
+// up to the trade it was neither filled in full nor followed by a quote .. worse than its price or absent on that side": one above
+// the number of the newest such order, or 0 where there is none.
+pub fn excuser(
     t: &[u32; 2048],
     ch: &[u32; 512],
     n: usize,
@@ -167,17 +168,17 @@ pub fn had_sent(
     s: usize,
     side: u32,
     time: u32,
-) -> bool
+) -> u32
     requires { ⌜ Within x s ⌝ }
     requires { ⌜ Chains (now t) (now ch) n ⌝ }
-    ensures { λ r. ⌜ HadSent (now (t .entry)) n x s side time r ⌝ }
+    ensures { λ r. ⌜ ExcuserIs (now (t .entry)) n x s side time r ⌝ }
 {
     let mut i = rows::index(ch[quotes::row_of(x, s)]);
     while 0 < i {
         if still_excuses(t, i - 1, side, time) {
-            return true;
+            return number(i);
         }
         i = rows::index(ch[SentOrder::MOST + (i - 1)]);
     }
-    false
+    0
 }

@@ -1,164 +1,197 @@
-// Each Satisfaction Order of the journal on standard input in words: what a clerk needs to answer a call about it. Or the refusal.
+// Each Satisfaction Order and each trade of a journal in words: what a clerk needs to answer a call about it.
+// `explain` takes the journal on standard input and says what our own sheet fills. `explain JOURNAL SHEET` sets a sheet beside what the journal gives: first the check's
+// answer, then in its place what was found to be wrong. Or the journal's refusal.
 ghost use Prim.Native.Nat.{_≤_, _<_};
 ghost use Rattle.rules.specs.Limits.{mostTrades, mostSatisfactionOrders};
 ghost use Rattle.claims.specs.Lines.{Filing};
-use claims::Line;
+use beside::Sheet;
 use feed::Input;
 use feed::Room;
+use journal::Rewritten;
+use libc::STDERR_FILENO;
 use libc::STDOUT_FILENO;
 use numbered::Trade;
-use prices::Side;
-use reasons::Claim;
+use said::Checked;
 use survey::Surveyed;
-use trades::Kept;
 
+mod beside;
+mod order;
 mod words;
 
-// "for each": its number, sender, size and trade.
-fn order(cl: &[u32; 6144], i: usize)
+// One order, and its line in the sheet. Says whether it could be written.
+fn told_order(
+    lines: &[u32; 6144],
+    kept: &[u32; 1024],
+    snaps: &[u32; 8192],
+    said: &[u32; 1536],
+    i: usize,
+    close: u32,
+    sheet: Sheet,
+) -> bool
     requires { ⌜ i < mostSatisfactionOrders ⌝ }
 {
-    words::say(b"Satisfaction Order ");
-    words::number(i as u64);
-    words::told(b" from exchange ", cl[i * 8 + Line::SENDER]);
-    words::told(b": ", cl[i * 8 + Line::SIZE]);
-    words::told(b" contracts, for trade ", cl[i * 8 + Line::TRADE]);
-    words::say(b"\n");
-}
-
-fn trade(tr: &[u32; 1024], m: usize)
-    requires { ⌜ m < mostTrades ⌝ }
-{
-    words::told(b"  the trade: ", tr[m * 8 + Kept::SIZE]);
-    words::told(b" contracts at ", tr[m * 8 + Kept::PRICE]);
-    words::say(b" cents, reported at ");
-    words::clock(tr[m * 8 + Kept::REPORT]);
-    if tr[m * 8 + Kept::BLOCK] == 1 {
-        words::say(b", a block");
-    }
-    if tr[m * 8 + Kept::COMPLEX] == 1 {
-        words::say(b", complex");
-    }
-    if tr[m * 8 + Kept::INITIATOR] != 0 {
-        words::told(b", initiated by exchange ", tr[m * 8 + Kept::INITIATOR]);
-    }
-    if tr[m * 8 + Kept::CLOSING] == 1 {
-        words::say(b", after the closing record");
-    }
-    words::say(b"\n");
-}
-
-// "An away exchange is traded through if its bid is above the price or its offer below it."
-fn through(cl: &[u32; 6144], i: usize)
-    requires { ⌜ i < mostSatisfactionOrders ⌝ }
-{
-    let side = cl[i * 8 + Line::SIDE];
-    if side == Side::NEITHER {
-        words::say(b"  not traded through\n");
-        return;
-    }
-    if side == Side::BID {
-        words::say(b"  traded through: its bid of ");
-    } else {
-        words::say(b"  traded through: its offer of ");
-    }
-    words::told(b"", cl[i * 8 + Line::THERE]);
-    words::told(b" cents, ", cl[i * 8 + Line::CUSTOMERS]);
-    words::say(b" customer contracts\n");
-}
-
-// "For a trade after it, each claim is also at most 10": what the claim would be without that, where that is more.
-fn limit(lines: &[u32; 6144], kept: &[u32; 1024], line: usize, trade: usize)
-    requires { ⌜ line < mostSatisfactionOrders ⌝ }
-    requires { ⌜ trade < mostTrades ⌝ }
-{
-    let claim = lines[line * 8 + Line::CLAIM];
-    let customers = lines[line * 8 + Line::CUSTOMERS];
-    let traded = kept[trade * 8 + Kept::SIZE];
-    let least = reasons::least_of(lines[line * 8 + Line::SIZE], customers, traded);
-    if lines[line * 8 + Line::REASON] != 0 || least <= claim {
-        return;
-    }
-    words::told(b", limited from ", least);
-    words::told(b": at most ", Claim::MOST_AT_THE_CLOSE);
-    words::say(b" contracts for a trade after the closing record, 6.94(a)(2)(ii)(C)");
-}
-
-// What is due to the trade, and this order's part of it. Says whether it could be written.
-fn amounts(cl: &[u32; 6144], tr: &[u32; 1024], fills: &[u32; 512], i: usize, m: usize) -> bool
-    requires { ⌜ i < mostSatisfactionOrders ⌝ }
-    requires { ⌜ m < mostTrades ⌝ }
-{
-    let claim = cl[i * 8 + Line::CLAIM];
-    words::told(b"  claim ", claim);
-    limit(cl, tr, i, m);
-    words::told(
-        b"; due to all orders for the trade: ",
-        claims::due_total(cl, tr, m),
-    );
-    words::say(b"\n");
-    let line = sheet::own_line(cl, fills, i);
-    words::told(b"  filled ", line[1]);
-    words::told(b", cancelled ", line[2]);
-    if line[1] < claim {
-        words::say(
-            b"; shared out by customer contracts, 6.94(a)(2)(ii)(B), rounded as the desk reads it",
-        );
-    }
-    words::say(b"\n")
-}
-
-fn explained(cl: &[u32; 6144], tr: &[u32; 1024], fills: &[u32; 512], i: usize) -> bool
-    requires { ⌜ i < mostSatisfactionOrders ⌝ }
-{
-    let m = rows::index(cl[i * 8 + Line::TRADE]);
+    let order = order::order_at(lines, i);
+    let m = rows::index(order.trade);
     if Trade::MOST <= m {
         return false;
     }
-    order(cl, i);
-    trade(tr, m);
-    through(cl, i);
-    words::reason(cl[i * 8 + Line::REASON]);
-    amounts(cl, tr, fills, i, m)
+    order::tell(order, kept, snaps, m, close);
+    let due = claims::due_total(lines, kept, m);
+    words::told(b"  due to all orders for the trade: ", due);
+    words::say(b"\n");
+    let shared = due < beside::claimed(lines, m);
+    beside::tell_line(said, order, i, sheet, shared)
 }
 
-fn orders(cl: &[u32; 6144], tr: &[u32; 1024], trades: usize, lines: usize)
-    requires { ⌜ (trades ≤ mostTrades) × Filing (now cl) lines ⌝ }
-    requires { ⌜ lines ≤ mostSatisfactionOrders ⌝ }
+// Says whether they could be written.
+fn tell_orders(
+    lines: &[u32; 6144],
+    kept: &[u32; 1024],
+    snaps: &[u32; 8192],
+    said: &[u32; 1536],
+    n: usize,
+    close: u32,
+    sheet: Sheet,
+) -> bool
+    requires { ⌜ n ≤ mostSatisfactionOrders ⌝ }
 {
-    let mut fills = [0u32; 512];
-    sheet::own_fills(cl, tr, trades, lines, &mut fills);
-    if lines == 0 {
-        words::say(b"no Satisfaction Order\n");
-    }
     let mut i: usize = 0;
-    while i < lines {
-        if !explained(cl, tr, &fills, i) {
-            os::fail(b"standard output");
-            return;
+    while i < n {
+        if !told_order(lines, kept, snaps, said, i, close, sheet) {
+            return false;
         }
         i += 1;
     }
+    true
 }
 
-fn explain(journal: &[u8]) {
-    let mut tr = [0u32; 1024];
-    let mut cl = [0u32; 6144];
+fn tell_trades(
+    lines: &[u32; 6144],
+    kept: &[u32; 1024],
+    snaps: &[u32; 8192],
+    said: &[u32; 1536],
+    trades: usize,
+    n: usize,
+    sheet: Sheet,
+) -> bool
+    requires { ⌜ (trades ≤ mostTrades) × Filing (now lines) n ⌝ }
+{
+    let mut m: usize = 0;
+    while m < trades {
+        if !beside::tell_trade(lines, kept, snaps, said, n, m, sheet) {
+            return false;
+        }
+        m += 1;
+    }
+    true
+}
+
+// Every order, then every trade, each with what the sheet says beside it.
+fn tell(
+    lines: &[u32; 6144],
+    kept: &[u32; 1024],
+    snaps: &[u32; 8192],
+    said: &[u32; 1536],
+    trades: usize,
+    n: usize,
+    close: u32,
+    sheet: Sheet,
+) -> bool
+    requires { ⌜ (trades ≤ mostTrades) × Filing (now lines) n ⌝ }
+    requires { ⌜ n ≤ mostSatisfactionOrders ⌝ }
+{
+    if n == 0 {
+        words::say(b"no Satisfaction Order\n");
+    }
+    if !tell_orders(lines, kept, snaps, said, n, close, sheet) {
+        return false;
+    }
+    beside::tell_extra(sheet, n);
+    tell_trades(lines, kept, snaps, said, trades, n, sheet)
+}
+
+// The journal with a sheet of its own or one that was handed in, which the check accepted (0) or refused. A refused journal has no tables.
+fn explain(journal: &[u8], sheet: &[u8], own: bool, no: u32, at: usize) {
+    let mut kept = [0u32; 1024];
+    let mut snaps = [0u32; 8192];
+    let mut lines = [0u32; 6144];
     let mut rows = [0u32; 1];
-    match survey::survey(journal, &mut tr, &mut cl, &mut rows) {
-        Surveyed::Stopped { no, place } => feed::refused(STDOUT_FILENO, no, place),
-        Surveyed::Whole {
-            trades,
-            lines,
-            listed: _,
-        } => orders(&cl, &tr, trades, lines),
+    let Surveyed::Whole {
+        trades,
+        lines: n,
+        listed: _,
+    } = survey::survey(journal, &mut kept, &mut snaps, &mut lines, &mut rows)
+    else {
+        return;
+    };
+    let mut said = [0u32; 1536];
+    let reach = said::read_lines(sheet, n, &mut said);
+    let told = Sheet {
+        own,
+        lines: reach.lines,
+        place: reach.place,
+        no,
+        at,
+    };
+    let front = header::read_header(journal);
+    let head = front.head;
+    if !tell(&lines, &kept, &snaps, &said, trades, n, head.close, told) {
+        os::fail(b"standard output");
     }
 }
 
-fn main() {
+fn explain_own(journal: &[u8], sheet: &[u8], n: usize) {
+    if n <= sheet.len() {
+        explain(journal, &sheet[..n], true, 0, 0);
+    }
+}
+
+// The journal on standard input with our own sheet, or its refusal.
+fn explain_input() {
     let mut journal = [0u8; Room::JOURNAL_INPUT];
+    let mut sheet = [0u8; Room::OWN_SHEET];
     let Input::Taken(n) = feed::standard_input(&mut journal) else {
         return;
     };
-    explain(&journal[..n]);
+    match answers::write_sheet(&journal[..n], &mut sheet) {
+        Rewritten::Unwritten { no, place } => feed::refused(STDOUT_FILENO, no, place),
+        Rewritten::Written { bytes } => explain_own(&journal[..n], &sheet, bytes),
+    }
+}
+
+fn explain_checked(journal: &[u8], sheet: &[u8]) {
+    match answers::check_sheet(journal, sheet) {
+        Checked::Accepted => {
+            words::say(b"accepted\n");
+            explain(journal, sheet, false, 0, 0);
+        }
+        Checked::Refused { no, place } => {
+            feed::refused(STDOUT_FILENO, no, place);
+            explain(journal, sheet, false, no, place);
+        }
+    }
+}
+
+// `explain JOURNAL SHEET`
+fn explain_files() {
+    let mut journal = [0u8; Room::JOURNAL_INPUT];
+    let mut sheet = [0u8; Room::SHEET_INPUT];
+    let Input::Taken(n) = feed::file(1, &mut journal) else {
+        return;
+    };
+    let Input::Taken(k) = feed::file(2, &mut sheet) else {
+        return;
+    };
+    explain_checked(&journal[..n], &sheet[..k]);
+}
+
+fn main() {
+    let words = os::arg_count();
+    if words == 3 {
+        explain_files();
+    } else if words == 1 {
+        explain_input();
+    } else {
+        io::write_all(STDERR_FILENO, b"usage: explain, or explain JOURNAL SHEET\n");
+    }
 }

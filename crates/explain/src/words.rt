@@ -15,16 +15,22 @@ pub fn told(text: &[u8], n: u32) {
     number(rows::wide(n));
 }
 
+// The same of a number that counts lines or trades.
+pub fn counted(text: &[u8], n: usize) {
+    say(text);
+    number(n as u64);
+}
+
 // Below a hundred, with two figures.
-fn pair(n: u32) {
+fn pair(n: u64) {
     if n < 10 {
         say(b"0");
     }
-    number(rows::wide(n));
+    number(n);
 }
 
 // "ms after midnight" as a clock shows it, with the milliseconds behind.
-pub fn clock(time: u32) {
+pub fn clock(time: u64) {
     pair(time / 3600000);
     say(b":");
     pair(time / 60000 % 60);
@@ -38,42 +44,54 @@ pub fn clock(time: u32) {
     pair(time % 1000);
 }
 
-// Rule 6.94(b), "Exceptions to Trade-Through Liability": reasons 2 to 9 are its paragraphs.
-fn say_exception(why: u32) -> bool {
+// Rule 6.94(b), "Exceptions to Trade-Through Liability": reasons 2 to 9 are its paragraphs. Statuses are 3 to 6.
+fn say_status(why: u32) -> bool {
     match why {
-        2 => say(
-            b"home had sent the sender an order more than 20 seconds before, by the trade neither filled in full nor followed by a worse quote (that such a quote ends the excuse is the desk's reading), 6.94(b)(2)",
-        ),
         3 => say(b"the sender was non-firm, 6.94(b)(3)"),
         4 => say(b"home was non-firm and no other exchange initiated the trade, 6.94(b)(4)"),
         5 => say(b"the sender was in rotation, 6.94(b)(5)"),
-        6 => say(b"home was in rotation, 6.94(b)(6)"),
-        7 => say(b"the trade was complex, 6.94(b)(7)"),
-        8 => say(
-            b"received more than three minutes after the trade's report, or more than one for a report in the last five minutes, 6.94(b)(8)",
-        ),
-        _ => say(
-            b"received more than three minutes after the report of a trade that another exchange initiated, 6.94(b)(9)",
-        ),
+        _ => say(b"home was in rotation, 6.94(b)(6)"),
     }
 }
 
-fn say_reason(why: u32) -> bool {
+// `excuser` is one above the number of the sent order that excuses home.
+fn say_excuse(excuser: u32) -> bool {
+    if excuser != 0 {
+        told(b"home's sent order ", excuser - 1);
+    }
+    say(
+        b" was more than 20 seconds old at the trade, and neither filled in full nor followed by a worse quote (that such a quote ends the excuse is the desk's reading), 6.94(b)(2)",
+    )
+}
+
+fn say_exception(why: u32, excuser: u32) -> bool {
+    match why {
+        2 => say_excuse(excuser),
+        7 => say(b"the trade was complex, 6.94(b)(7)"),
+        8 => say(b"it came too late, 6.94(b)(8)"),
+        9 => say(b"it came too late, 6.94(b)(9)"),
+        _ => say_status(why),
+    }
+}
+
+fn say_price_reason(why: u32) -> bool {
+    match why {
+        11 => say(b"its price is the trade's, and the trade is no block, 6.94(a)(2)(i)"),
+        12 => say(b"its price is not the one required, 6.92(a)(18)"),
+        _ => say(b"no customer contracts in the bid or offer traded through, 6.94(a)(2)(ii)"),
+    }
+}
+
+// The number, and its words.
+pub fn reason(why: u32, excuser: u32) {
+    told(b"  reason ", why);
+    say(b": ");
     match why {
         0 => say(b"none, to be filled, 6.94(a)(2)"),
         10 => say(b"the sender was not traded through, and so is no aggrieved party, 6.92(a)(1)"),
-        11 => say(b"its price is the trade's, and the trade is no block, 6.94(a)(2)(i)"),
-        12 => say(
-            b"its price is not the one required (for a block the trade's, otherwise the bid or offer traded through), 6.92(a)(18)",
-        ),
-        13 => say(b"no customer contracts in the bid or offer traded through, 6.94(a)(2)(ii)"),
-        _ => say_exception(why),
+        11..=13 => say_price_reason(why),
+        _ => say_exception(why, excuser),
     }
-}
-
-pub fn reason(why: u32) {
-    told(b"  reason ", why);
-    say(b": ");
-    say_reason(why);
+    ;
     say(b"\n");
 }

@@ -22,7 +22,7 @@ pub fn total(words: &[u32; 8], k: usize) -> u64
 }
 
 // Whether the first line, filled below its claim, has too little beside the second.
-fn breaks(fill: u32, claim: u32, customers: u32, fill2: u32, customers2: u32) -> bool
+pub fn breaks(fill: u32, claim: u32, customers: u32, fill2: u32, customers2: u32) -> bool
     ensures { λ r. ⌜ Breaks fill claim customers fill2 customers2 r ⌝ }
 {
     if claim <= fill {

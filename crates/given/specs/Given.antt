@@ -8,6 +8,6 @@ use Rattle.header.specs.declared.Head.{Head}
 unfoldable pub wordsAt : ℕ → ℕ → List ℕ → List ℕ
 wordsAt at k ns = take k (drop at ns)
 
--- the first 19 numbers: home, N, close, 16 sizes
+-- the header in memory that the first 19 numbers are: home, N, close, 16 sizes
 abbrev pub headFrom : List ℕ → Head
 headFrom ns = record { home = getD ns 0 0; exchanges = getD ns 1 0; close = getD ns 2 0; sizes = wordsAt 3 16 ns }

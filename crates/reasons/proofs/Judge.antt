@@ -1,21 +1,23 @@
 -- What the rows of one trade say the reason on a Satisfaction Order, its customer contracts and its claim.
 use mathlib.Core.Path.{_≡_, refl, sym}
-use mathlib.Core.Bool.{Bool, true, false, Bool·not-not}
+use mathlib.Core.Bool.{Bool, true, false, not, _&&_, Bool·not-not}
 use mathlib.Core.List.{List}
-use Prim.Native.Nat.{ℕ, _+_}
+use Prim.Native.Nat.{ℕ, _+_, _-_}
 use lib.ListN.{getD}
-use Rattle.rules.specs.Basics.{if_then_else_, _==_, Row, _when_, _¦_, firstOf}
+use Rattle.rules.specs.Basics.{if_then_else_, _==_, _atLeast_, _moreThan_, Row, _when_, _¦_, firstOf}
+use Rattle.rules.specs.Limits.{closingMinutes}
 use Rattle.rules.specs.Header.{Header}
 use Rattle.rules.specs.Record.{buy, sell, Event, trade, satisfaction}
 use Rattle.rules.specs.Journal.{History, closingBegun}
 use Rattle.rules.specs.Prices.{standing, statusOf}
 use Rattle.rules.specs.Verdicts.{neither, theBid, through, sideThrough, isBlock}
-use Rattle.rules.specs.Reasons.{Case, senderQuote, senderSide, customers, hadSent, report, timeToClaim, lateBy, required, reason}
+use Rattle.rules.specs.Reasons.{Case, senderQuote, senderSide, customers, hadSent, report, threeMinutes, oneMinute, timeToClaim, lateBy, required, reason}
 use Rattle.rules.specs.Due.{leastOfThree, claim}
 use Rattle.rules.proofs.Tests.{bit-is}
-use Rattle.trades.specs.Trades.{priceOn, customersOn, excusingSide, excuseAt, snap, snapAt, tradeRow}
+use Rattle.trades.specs.Trades.{priceOn, customersOn, excusingSide, snap, snapAt, tradeRow}
+use Rattle.trades.proofs.Snaps.{excuser-tells}
 use Rattle.reasons.specs.declared.Facts.{Facts}
-use Rattle.reasons.specs.Reasons.{laterThan, lateAt, requiredOf, reasonOf, claimOf}
+use Rattle.reasons.specs.Reasons.{laterThan, allowedAt, requiredOf, reasonOf, claimOf}
 
 -- an exchange that was not traded through is not asked for its excuse
 unasked : (outside had : Bool) (rest : List Row)
@@ -23,6 +25,17 @@ unasked : (outside had : Bool) (rest : List Row)
 unfolding firstOf
 unasked true had rest = refl
 unasked false had rest = refl
+
+-- one time is allowed, for 8 with no initiator, for 9 with one
+module _ (closing : Bool) (late : ℕ → Bool) where
+  allowed-with-none : (none : Bool)
+      → (none && late (if closing then oneMinute else threeMinutes)) ≡ (none && late (if none && closing then oneMinute else threeMinutes))
+  allowed-with-none true = refl
+  allowed-with-none false = refl
+
+  allowed-with-one : (none : Bool) → (not none && late threeMinutes) ≡ (not none && late (if none && closing then oneMinute else threeMinutes))
+  allowed-with-one true = refl
+  allowed-with-one false = refl
 
 -- ---- a case in words, of the sender y + 1
 
@@ -42,7 +55,7 @@ factsIn h k y =
       there = getD (snapAt (k .trade) (k .before) y) 1 0;
       customers = getD (snapAt (k .trade) (k .before) y) 2 0;
       status = getD (snapAt (k .trade) (k .before) y) 3 0;
-      excused = getD (snapAt (k .trade) (k .before) y) 4 0;
+      excuser = getD (snapAt (k .trade) (k .before) y) 4 0;
       home = statusOf (h .home) (k .before);
       price = getD (tradeRow h (k .trade) (k .before)) 0 0;
       block = getD (tradeRow h (k .trade) (k .before)) 2 0;
@@ -56,12 +69,21 @@ factsIn h k y =
 
 module _ (h : Header) (k : Case) (y : ℕ) (es : (satisfaction (k .claim)) .sender ≡ y + 1) where
   pub reason-words : reason h k ≡ reasonOf (factsIn h k y)
-  unfolding reason reasonOf snap tradeRow senderSide senderQuote sideThrough lateBy timeToClaim lateAt laterThan customers required requiredOf priceOn customersOn excusingSide excuseAt
+  unfolding reason reasonOf snap tradeRow senderSide senderQuote sideThrough lateBy timeToClaim allowedAt laterThan customers required requiredOf priceOn customersOn excusingSide
   reason-words =
       let t = trade (k .trade) in
       let side : ℕ = through (standing (y + 1) (t .series) (k .before)) (t .price) in
       let had : Bool = hadSent (y + 1) (t .series) (if side == theBid then sell else buy) (k .trade .time) (k .before) in
-      rw (es, bit-is (if side == neither then false else had), bit-is (isBlock h (k .before) t), Bool·not-not (t .initiator == 0))
+      let closing : Bool = report (k .trade) atLeast (h .close - closingMinutes) in
+      let late : ℕ → Bool = λ allowed. k .claim .time moreThan (report (k .trade) + allowed) in
+      rw (
+        es,
+        excuser-tells side (y + 1) (t .series) (k .trade .time) (k .before),
+        bit-is (isBlock h (k .before) t),
+        Bool·not-not (t .initiator == 0),
+        allowed-with-none closing late (t .initiator == 0),
+        allowed-with-one closing late (t .initiator == 0),
+      )
       (unasked (side == neither) had _)
 
   pub customers-words : customers k ≡ getD (snapAt (k .trade) (k .before) y) 2 0

@@ -4,8 +4,8 @@ use mathlib.Core.Bool.{Bool, true, false, not, _&&_}
 use mathlib.Core.List.{List, [], _∷_, _++_}
 use Prim.Native.Nat.{ℕ, _+_, _-_, _≤_, _<_, min}
 use native.Mathlib.Omega.{arith}
-use lib.Dec.{eqb, ltb}
-use borrow.Author.Tests.{eq-eqb, ne-eqb, le-leb, lt-leb, not-true}
+use lib.Dec.{eqb, leb, ltb}
+use borrow.Author.Tests.{eq-eqb, ne-eqb, le-leb, lt-leb, leb-true, leb-false, not-true}
 use Rattle.rules.specs.Basics.{if_then_else_, _==_, Row, firstOf, all}
 use Rattle.rules.specs.Limits.{closingMinutes}
 use Rattle.rules.specs.Record.{notFirm, rotation, complexTrade}
@@ -14,23 +14,36 @@ use Rattle.rules.specs.Reasons.{threeMinutes, oneMinute}
 use Rattle.rules.specs.Due.{mostAtTheClose, limited, leastOf}
 use Rattle.rules.proofs.Tests.{byTest, and-left, and-right}
 use Rattle.reasons.specs.declared.Facts.{Facts}
-use Rattle.reasons.specs.Reasons.{laterThan, lateAt, requiredOf, byTrade, byTime, byPrice, tradeReason, lateReason, priceReason, reasonOf, claimOf}
+use Rattle.reasons.specs.Reasons.{laterThan, allowedAt, requiredOf, byTrade, byTime, byPrice, tradeReason, lateReason, priceReason, reasonOf, claimOf}
 
 pub later-by-words : (report allowed now a b : ℕ) → (a ≡ report) × (a < 4294967296) → (b ≡ now) × (b < 4294967296) → ltb (a + allowed) b ≡ laterThan report allowed now
 unfolding laterThan
 later-by-words report allowed now a b ea eb = rw (ea .0, eb .0)
 
 -- "if the report is at or after close less 300,000"
-module _ (report close now a c : ℕ) (ea : (a ≡ report) × (a < 4294967296)) (ec : (c ≡ close) × (c < 4294967296)) where
-  pub late-in-closing-minutes : c ≤ a + closingMinutes → (b : Bool) → b ≡ laterThan report oneMinute now → b ≡ lateAt report close now
-  unfolding lateAt
-  late-in-closing-minutes h b e =
-      let k : close - closingMinutes ≤ report = omega (arith, ea .0, ec .0) in rw (le-leb (close - closingMinutes) report k) e
+in-closing-minutes : (report close : ℕ) → leb close (report + closingMinutes) ≡ leb (close - closingMinutes) report
+in-closing-minutes report close =
+    byTest (leb close (report + closingMinutes))
+    (λ p. let h = leb-true close (report + closingMinutes) p in p ∙ sym (le-leb (close - closingMinutes) report (omega arith)))
+    (λ p. let h = leb-false close (report + closingMinutes) p in p ∙ sym (lt-leb (close - closingMinutes) report (omega arith)))
 
-  pub late-before : a + closingMinutes < c → (b : Bool) → b ≡ laterThan report threeMinutes now → b ≡ lateAt report close now
-  unfolding lateAt
-  late-before h b e =
-      let k : report < close - closingMinutes = omega (arith, ea .0, ec .0) in rw (lt-leb (close - closingMinutes) report k) e
+module _ (initiator report close a c : ℕ) (ea : (a ≡ report) × (a < 4294967296)) (ec : (c ≡ close) × (c < 4294967296))
+    (b : Bool) (eb : b ≡ (eqb initiator 0 && leb c (a + closingMinutes))) where
+  closing-test : (eqb initiator 0 && leb (close - closingMinutes) report) ≡ b
+  closing-test = sym (eb ∙ rw (ea .0, ec .0, in-closing-minutes report close))
+
+  pub one-minute-allowed : b ≡ true → oneMinute ≡ allowedAt initiator report close
+  unfolding allowedAt
+  one-minute-allowed p = rw (closing-test ∙ p)
+
+  pub three-minutes-allowed : b ≡ false → threeMinutes ≡ allowedAt initiator report close
+  unfolding allowedAt
+  three-minutes-allowed p = rw (closing-test ∙ p)
+
+pub allowed-at-most : (initiator report close a : ℕ) → a ≡ allowedAt initiator report close → a ≤ threeMinutes
+unfolding allowedAt
+allowed-at-most initiator report close a e =
+    byTest (eqb initiator 0 && leb (close - closingMinutes) report) (λ p. rw (e, p) (omega arith)) (λ p. rw (e, p) (omega arith))
 
 module _ (block price there : ℕ) where
   pub required-of-block : block ≡ 1 → price ≡ requiredOf block price there
@@ -62,65 +75,66 @@ module _ (why size customers traded closing : ℕ) where
   unfolding claimOf
   no-claim p = rw (ne-eqb why 0 p)
 
-pub ruleset word-laws = (later-by-words, late-in-closing-minutes, late-before, required-of-block, required-otherwise, least-in-turn, limited-in-window, not-limited, claim-is-least, no-claim)
+pub ruleset word-laws = (later-by-words, one-minute-allowed, three-minutes-allowed, required-of-block, required-otherwise, least-in-turn, limited-in-window, not-limited, claim-is-least, no-claim)
 
-module _ (side excused status home initiator complex : ℕ) where
-  pub reason-10 : side ≡ neither → 10 ≡ tradeReason side excused status home initiator complex
+module _ (side excuser status home initiator complex : ℕ) where
+  pub reason-10 : side ≡ neither → 10 ≡ tradeReason side excuser status home initiator complex
   unfolding tradeReason firstOf
   reason-10 q = rw (eq-eqb side neither q)
 
   module _ (p10 : side ≡ neither → ⊥) where
-    pub reason-2 : excused ≡ 1 → 2 ≡ tradeReason side excused status home initiator complex
+    pub reason-2 : (excuser ≡ 0 → ⊥) → 2 ≡ tradeReason side excuser status home initiator complex
     unfolding tradeReason firstOf
-    reason-2 q = rw (ne-eqb side neither p10, eq-eqb excused 1 q)
+    reason-2 q = rw (ne-eqb side neither p10, ne-eqb excuser 0 q)
 
-    module _ (p2 : excused ≡ 1 → ⊥) where
-      pub reason-3 : status ≡ notFirm → 3 ≡ tradeReason side excused status home initiator complex
+    module _ (p2 : excuser ≡ 0) where
+      pub reason-3 : status ≡ notFirm → 3 ≡ tradeReason side excuser status home initiator complex
       unfolding tradeReason firstOf
-      reason-3 q = rw (ne-eqb side neither p10, ne-eqb excused 1 p2, eq-eqb status notFirm q)
+      reason-3 q = rw (ne-eqb side neither p10, eq-eqb excuser 0 p2, eq-eqb status notFirm q)
 
       module _ (p3 : status ≡ notFirm → ⊥) where
         module _ (b4 : Bool) (e4 : b4 ≡ (eqb initiator 0 && eqb home notFirm)) where
-          pub reason-4 : b4 ≡ true → 4 ≡ tradeReason side excused status home initiator complex
+          pub reason-4 : b4 ≡ true → 4 ≡ tradeReason side excuser status home initiator complex
           unfolding tradeReason firstOf
-          reason-4 q = rw (ne-eqb side neither p10, ne-eqb excused 1 p2, ne-eqb status notFirm p3, sym e4 ∙ q)
+          reason-4 q = rw (ne-eqb side neither p10, eq-eqb excuser 0 p2, ne-eqb status notFirm p3, sym e4 ∙ q)
 
           module _ (p4 : b4 ≡ false) where
-            pub reason-5 : status ≡ rotation → 5 ≡ tradeReason side excused status home initiator complex
+            pub reason-5 : status ≡ rotation → 5 ≡ tradeReason side excuser status home initiator complex
             unfolding tradeReason firstOf
-            reason-5 q = rw (ne-eqb side neither p10, ne-eqb excused 1 p2, ne-eqb status notFirm p3, sym e4 ∙ p4, eq-eqb status rotation q)
+            reason-5 q = rw (ne-eqb side neither p10, eq-eqb excuser 0 p2, ne-eqb status notFirm p3, sym e4 ∙ p4, eq-eqb status rotation q)
 
             module _ (p5 : status ≡ rotation → ⊥) where
-              pub reason-6 : home ≡ rotation → 6 ≡ tradeReason side excused status home initiator complex
+              pub reason-6 : home ≡ rotation → 6 ≡ tradeReason side excuser status home initiator complex
               unfolding tradeReason firstOf
-              reason-6 q = rw (ne-eqb side neither p10, ne-eqb excused 1 p2, ne-eqb status notFirm p3, sym e4 ∙ p4, ne-eqb status rotation p5, eq-eqb home rotation q)
+              reason-6 q = rw (ne-eqb side neither p10, eq-eqb excuser 0 p2, ne-eqb status notFirm p3, sym e4 ∙ p4, ne-eqb status rotation p5, eq-eqb home rotation q)
 
               module _ (p6 : home ≡ rotation → ⊥) where
-                pub reason-7 : complex ≡ complexTrade → 7 ≡ tradeReason side excused status home initiator complex
+                pub reason-7 : complex ≡ complexTrade → 7 ≡ tradeReason side excuser status home initiator complex
                 unfolding tradeReason firstOf
-                reason-7 q = rw (ne-eqb side neither p10, ne-eqb excused 1 p2, ne-eqb status notFirm p3, sym e4 ∙ p4, ne-eqb status rotation p5, ne-eqb home rotation p6, eq-eqb complex complexTrade q)
+                reason-7 q = rw (ne-eqb side neither p10, eq-eqb excuser 0 p2, ne-eqb status notFirm p3, sym e4 ∙ p4, ne-eqb status rotation p5, ne-eqb home rotation p6, eq-eqb complex complexTrade q)
 
                 module _ (p7 : complex ≡ complexTrade → ⊥) where
-                  pub no-trade-reason : 0 ≡ tradeReason side excused status home initiator complex
+                  pub no-trade-reason : 0 ≡ tradeReason side excuser status home initiator complex
                   unfolding tradeReason firstOf
-                  no-trade-reason = rw (ne-eqb side neither p10, ne-eqb excused 1 p2, ne-eqb status notFirm p3, sym e4 ∙ p4, ne-eqb status rotation p5, ne-eqb home rotation p6, ne-eqb complex complexTrade p7)
+                  no-trade-reason = rw (ne-eqb side neither p10, eq-eqb excuser 0 p2, ne-eqb status notFirm p3, sym e4 ∙ p4, ne-eqb status rotation p5, ne-eqb home rotation p6, ne-eqb complex complexTrade p7)
 
-module _ (initiator report close now : ℕ) where
-  module _ (l8 b8 : Bool) (d8 : l8 ≡ lateAt report close now) (e8 : b8 ≡ (eqb initiator 0 && l8)) where
+module _ (initiator report close now allowed : ℕ) (ea : allowed ≡ allowedAt initiator report close) (late : Bool) (el : late ≡ laterThan report allowed now) where
+  is-late : laterThan report (allowedAt initiator report close) now ≡ late
+  is-late = rw (← ea) (sym el)
+
+  module _ (b8 : Bool) (e8 : b8 ≡ (eqb initiator 0 && late)) where
     pub reason-8 : b8 ≡ true → 8 ≡ lateReason initiator report close now
     unfolding lateReason firstOf
-    reason-8 q = rw (sym (e8 ∙ ap (λ z. eqb initiator 0 && z) d8) ∙ q)
+    reason-8 q = rw (is-late, sym e8 ∙ q)
 
-    module _ (p8 : b8 ≡ false) where
-      module _ (l9 b9 : Bool) (d9 : l9 ≡ laterThan report threeMinutes now) (e9 : b9 ≡ (not (eqb initiator 0) && l9)) where
-        pub reason-9 : b9 ≡ true → 9 ≡ lateReason initiator report close now
-        unfolding lateReason firstOf
-        reason-9 q = rw (sym (e8 ∙ ap (λ z. eqb initiator 0 && z) d8) ∙ p8, sym (e9 ∙ ap (λ z. not (eqb initiator 0) && z) d9) ∙ q)
+    module _ (p8 : b8 ≡ false) (b9 : Bool) (e9 : b9 ≡ (not (eqb initiator 0) && late)) where
+      pub reason-9 : b9 ≡ true → 9 ≡ lateReason initiator report close now
+      unfolding lateReason firstOf
+      reason-9 q = rw (is-late, sym e8 ∙ p8, sym e9 ∙ q)
 
-        module _ (p9 : b9 ≡ false) where
-          pub no-late-reason : 0 ≡ lateReason initiator report close now
-          unfolding lateReason firstOf
-          no-late-reason = rw (sym (e8 ∙ ap (λ z. eqb initiator 0 && z) d8) ∙ p8, sym (e9 ∙ ap (λ z. not (eqb initiator 0) && z) d9) ∙ p9)
+      pub no-late-reason : b9 ≡ false → 0 ≡ lateReason initiator report close now
+      unfolding lateReason firstOf
+      no-late-reason q = rw (is-late, sym e8 ∙ p8, sym e9 ∙ q)
 
 module _ (asked price block there contracts : ℕ) where
   module _ (b11 : Bool) (e11 : b11 ≡ (eqb asked price && not (eqb block 1))) where
@@ -144,7 +158,7 @@ module _ (asked price block there contracts : ℕ) where
             unfolding priceReason firstOf
             no-price-reason = rw (sym e11 ∙ p11, eq-eqb asked (requiredOf block price there) (p12 ∙ e12), ne-eqb contracts 0 p13)
 
-pub ruleset reason-laws = (reason-10, reason-2, reason-3, reason-4, reason-5, reason-6, reason-7, no-trade-reason, reason-8, reason-9, no-late-reason, reason-11, reason-12, reason-13, no-price-reason)
+pub ruleset reason-laws = (reason-10, reason-2, reason-3, reason-4, reason-5, reason-6, reason-7, no-trade-reason, allowed-at-most, reason-8, reason-9, no-late-reason, reason-11, reason-12, reason-13, no-price-reason)
 
 -- ---- the three parts in their order are the whole table
 
@@ -158,26 +172,26 @@ first-append (r ∷ a) b h =
 
 module _ (k : Facts) where
   parts : reasonOf k
-      ≡ (if tradeReason (k .side) (k .excused) (k .status) (k .home) (k .initiator) (k .complex) == 0
+      ≡ (if tradeReason (k .side) (k .excuser) (k .status) (k .home) (k .initiator) (k .complex) == 0
       then
       (if lateReason (k .initiator) (k .report) (k .close) (k .time) == 0
       then priceReason (k .asked) (k .price) (k .block) (k .there) (k .customers)
       else lateReason (k .initiator) (k .report) (k .close) (k .time))
-      else tradeReason (k .side) (k .excused) (k .status) (k .home) (k .initiator) (k .complex))
+      else tradeReason (k .side) (k .excuser) (k .status) (k .home) (k .initiator) (k .complex))
   unfolding reasonOf tradeReason lateReason priceReason all
   parts =
       first-append
-      (byTrade (k .side) (k .excused) (k .status) (k .home) (k .initiator) (k .complex))
+      (byTrade (k .side) (k .excuser) (k .status) (k .home) (k .initiator) (k .complex))
       (byTime (k .initiator) (k .report) (k .close) (k .time) ++ byPrice (k .asked) (k .price) (k .block) (k .there) (k .customers))
       refl
-      ∙ ap (λ (later : ℕ). if tradeReason (k .side) (k .excused) (k .status) (k .home) (k .initiator) (k .complex) == 0
-      then later else tradeReason (k .side) (k .excused) (k .status) (k .home) (k .initiator) (k .complex))
+      ∙ ap (λ (later : ℕ). if tradeReason (k .side) (k .excuser) (k .status) (k .home) (k .initiator) (k .complex) == 0
+      then later else tradeReason (k .side) (k .excuser) (k .status) (k .home) (k .initiator) (k .complex))
       (first-append
       (byTime (k .initiator) (k .report) (k .close) (k .time))
       (byPrice (k .asked) (k .price) (k .block) (k .there) (k .customers))
       refl)
 
-  module _ (t : ℕ) (et : t ≡ tradeReason (k .side) (k .excused) (k .status) (k .home) (k .initiator) (k .complex)) where
+  module _ (t : ℕ) (et : t ≡ tradeReason (k .side) (k .excuser) (k .status) (k .home) (k .initiator) (k .complex)) where
     pub reason-by-trade : (t ≡ 0 → ⊥) → t ≡ reasonOf k
     reason-by-trade p = rw (parts, ← et, ne-eqb t 0 p)
 

@@ -14,10 +14,11 @@ use Rattle.reasons.specs.declared.Facts.{Facts}
 unfoldable pub laterThan : ℕ → ℕ → ℕ → Bool
 laterThan report allowed now = now moreThan (report + allowed)
 
--- "plus 180,000 ms, or plus 60,000 if the report is at or after close less 300,000"
-unfoldable pub lateAt : ℕ → ℕ → ℕ → Bool
-lateAt report close now =
-    laterThan report (if report atLeast (close - closingMinutes) then oneMinute else threeMinutes) now
+-- how long after the report an order may come: "180,000 ms, or .. 60,000 if the report is at or after close less 300,000", the
+-- second where there is no initiator
+unfoldable pub allowedAt : ℕ → ℕ → ℕ → ℕ
+allowedAt initiator report close =
+    if initiator == 0 && report atLeast (close - closingMinutes) then oneMinute else threeMinutes
 
 -- "for a block the trade's, otherwise the bid or offer traded through"
 unfoldable pub requiredOf : ℕ → ℕ → ℕ → ℕ
@@ -27,9 +28,9 @@ requiredOf block price there = if block == 1 then price else there
 
 -- the moment of the trade
 abbrev pub byTrade : ℕ → ℕ → ℕ → ℕ → ℕ → ℕ → List Row
-byTrade side excused status home initiator complex =
+byTrade side excuser status home initiator complex =
     10 when side == neither
-    ¦ 2 when excused == 1
+    ¦ 2 when not (excuser == 0)
     ¦ 3 when status == notFirm
     ¦ 4 when initiator == 0 && home == notFirm
     ¦ 5 when status == rotation
@@ -40,8 +41,8 @@ byTrade side excused status home initiator complex =
 -- the order's time
 abbrev pub byTime : ℕ → ℕ → ℕ → ℕ → List Row
 byTime initiator report close now =
-    8 when initiator == 0 && lateAt report close now
-    ¦ 9 when not (initiator == 0) && laterThan report threeMinutes now
+    8 when initiator == 0 && laterThan report (allowedAt initiator report close) now
+    ¦ 9 when not (initiator == 0) && laterThan report (allowedAt initiator report close) now
     ¦ []
 
 -- its price, and the customer contracts
@@ -53,7 +54,7 @@ byPrice asked price block there contracts =
     ¦ []
 
 unfoldable pub tradeReason : ℕ → ℕ → ℕ → ℕ → ℕ → ℕ → ℕ
-tradeReason side excused status home initiator complex = firstOf (byTrade side excused status home initiator complex)
+tradeReason side excuser status home initiator complex = firstOf (byTrade side excuser status home initiator complex)
 
 unfoldable pub lateReason : ℕ → ℕ → ℕ → ℕ → ℕ
 lateReason initiator report close now = firstOf (byTime initiator report close now)
@@ -65,7 +66,7 @@ priceReason asked price block there contracts = firstOf (byPrice asked price blo
 unfoldable pub reasonOf : Facts → ℕ
 reasonOf k =
     firstOf
-    (byTrade (k .side) (k .excused) (k .status) (k .home) (k .initiator) (k .complex)
+    (byTrade (k .side) (k .excuser) (k .status) (k .home) (k .initiator) (k .complex)
     ++ (byTime (k .initiator) (k .report) (k .close) (k .time)
     ++ byPrice (k .asked) (k .price) (k .block) (k .there) (k .customers)))
 

@@ -5,7 +5,7 @@ ghost use Prim.Native.Nat.{_≤_};
 ghost use Rattle.rules.specs.Basics.{_==_};
 ghost use Rattle.rules.specs.Reasons.{threeMinutes};
 ghost use Rattle.rules.specs.Due.{leastOf, limited};
-ghost use Rattle.reasons.specs.Reasons.{laterThan, lateAt, requiredOf, tradeReason, lateReason, priceReason, reasonOf, claimOf};
+ghost use Rattle.reasons.specs.Reasons.{laterThan, allowedAt, requiredOf, tradeReason, lateReason, priceReason, reasonOf, claimOf};
 use prices::Side;
 use rows::Closing;
 use rows::Complex;
@@ -25,13 +25,13 @@ impl Receipt {
 }
 
 // What a Satisfaction Order is judged by: of its sender at the trade the side traded through, the price and the customer
-// contracts there, the status and whether home was excused; home's status; of the trade; of the order.
+// contracts there, the status and what excused home (0 nothing); home's status; of the trade; of the order.
 pub struct Facts {
     pub side: u32,
     pub there: u32,
     pub customers: u32,
     pub status: u32,
-    pub excused: u32,
+    pub excuser: u32,
     pub home: u32,
     pub price: u32,
     pub block: u32,
@@ -56,17 +56,20 @@ fn later_than(report: u32, allowed: u64, time: u32) -> bool
     rows::wide(report) + allowed < rows::wide(time)
 }
 
-fn is_late(report: u32, close: u32, time: u32) -> bool
-    ensures { λ r. ⌜ r ≡ lateAt report close time ⌝ }
+// How long after the report an order may come: "180,000 ms, or .. 60,000 if the report is at or after close less 300,000", which
+// is said where there is no initiator.
+pub fn allowed(initiator: u32, report: u32, close: u32) -> u64
+    ensures { λ r. ⌜ r ≡ allowedAt initiator report close ⌝ }
 {
-    if rows::wide(close) <= rows::wide(report) + Receipt::CLOSING_MINUTES {
-        return later_than(report, Receipt::ONE_MINUTE, time);
+    let closing = rows::wide(close) <= rows::wide(report) + Receipt::CLOSING_MINUTES;
+    if both(initiator == 0, closing) {
+        return Receipt::ONE_MINUTE;
     }
-    later_than(report, Receipt::THREE_MINUTES, time)
+    Receipt::THREE_MINUTES
 }
 
 // "for a block the trade's, otherwise the bid or offer traded through"
-fn required(block: u32, price: u32, there: u32) -> u32
+pub fn required(block: u32, price: u32, there: u32) -> u32
     ensures { λ r. ⌜ r ≡ requiredOf block price there ⌝ }
 {
     if block == 1 { price } else { there }
@@ -76,18 +79,18 @@ fn required(block: u32, price: u32, there: u32) -> u32
 // in rotation. 6 home in rotation. 7 complex."
 fn trade_reason(
     side: u32,
-    excused: u32,
+    excuser: u32,
     status: u32,
     home: u32,
     initiator: u32,
     complex: u32,
 ) -> u32
-    ensures { λ r. ⌜ r ≡ tradeReason side excused status home initiator complex ⌝ }
+    ensures { λ r. ⌜ r ≡ tradeReason side excuser status home initiator complex ⌝ }
 {
     if side == Side::NEITHER {
         return 10;
     }
-    if excused == 1 {
+    if excuser != 0 {
         return 2;
     }
     if status == Status::NON_FIRM {
@@ -113,13 +116,11 @@ fn trade_reason(
 fn late_reason(initiator: u32, report: u32, close: u32, time: u32) -> u32
     ensures { λ r. ⌜ r ≡ lateReason initiator report close time ⌝ }
 {
-    if both(initiator == 0, is_late(report, close, time)) {
+    let late = later_than(report, allowed(initiator, report, close), time);
+    if both(initiator == 0, late) {
         return 8;
     }
-    if both(
-        initiator != 0,
-        later_than(report, Receipt::THREE_MINUTES, time),
-    ) {
+    if both(initiator != 0, late) {
         return 9;
     }
     0
@@ -145,7 +146,7 @@ fn price_reason(asked: u32, price: u32, block: u32, there: u32, customers: u32) 
 pub fn reason_of(k: Facts) -> u32
     ensures { λ r. ⌜ r ≡ reasonOf k ⌝ }
 {
-    let by_trade = trade_reason(k.side, k.excused, k.status, k.home, k.initiator, k.complex);
+    let by_trade = trade_reason(k.side, k.excuser, k.status, k.home, k.initiator, k.complex);
     if by_trade != 0 {
         return by_trade;
     }

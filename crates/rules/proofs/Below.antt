@@ -1,6 +1,6 @@
 -- Lists of what a function gives for 0, 1, .. below n, and lists that grow part by part.
 use mathlib.Core.Path.{_≡_, refl, sym, ap, _∙_}
-use mathlib.Core.Bool.{Bool, true, false, _||_, or-true, or-false}
+use mathlib.Core.Bool.{Bool, _||_, or-false}
 use mathlib.Core.List.{List, [], _∷_, _++_, map, map-append}
 use Prim.Native.Nat.{ℕ, zero, suc, _+_, _<_, _≤_}
 use native.Mathlib.Omega.{arith}
@@ -46,20 +46,9 @@ same-below f g (suc n) h = next-below f n ∙ rw (h n (omega arith), same-below 
 
 -- ---- a test on the numbers below n
 
-one-more-tried : (f : ℕ → Bool) (n : ℕ) → any f (below (suc n)) ≡ (any f (below n) || f n)
+pub one-more-tried : (f : ℕ → Bool) (n : ℕ) → any f (below (suc n)) ≡ (any f (below n) || f n)
 unfolding below any
 one-more-tried f n = any-append f (below n) (n ∷ []) ∙ rw or-false
-
-pub any-below-none : (f : ℕ → Bool) (n : ℕ) → ((m : ℕ) → m < n → f m ≡ false) → any f (below n) ≡ false
-any-below-none f zero none = unfold below any in refl
-any-below-none f (suc n) none = one-more-tried f n ∙ rw (any-below-none f n (λ m h. none m (omega arith)), none n (omega arith))
-
-pub any-below-found : (f : ℕ → Bool) (n i : ℕ) → i < n → f i ≡ true → any f (below n) ≡ true
-any-below-found f zero i h e = absurd (omega arith)
-any-below-found f (suc n) i h e =
-    one-more-tried f n
-    ∙ byTest (eqb i n) (λ q. rw (← eqb-true i n q, e) (or-true (any f (below i))))
-    (λ q. rw (any-below-found f n i (omega (arith, eqb-false i n q)) e))
 
 -- ---- part by part: fewer parts are no longer
 

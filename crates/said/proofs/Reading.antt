@@ -19,9 +19,10 @@ use Rattle.number.specs.declared.Field.the-variants.{Read as ReadTo, Cut as NoF
 use Rattle.numbers.specs.Rows.{Many, all, cut, after, manyAt}
 use Rattle.numbers.proofs.Reading.{numbers-at}
 use Rattle.said.specs.declared.Checked.the-variants.{Accepted, Refused}
+use Rattle.said.specs.declared.Reach.{Reach}
 use Rattle.said.specs.declared.Three.{Three}
 use Rattle.said.specs.declared.Three.the-variants.{Read, Cut}
-use Rattle.said.specs.Said.{each, asThree, threeAt, saidLine, SheetRead, behind, SheetReading}
+use Rattle.said.specs.Said.{each, asThree, threeAt, saidLine, SheetRead, behind, SheetReading, LinesRead}
 
 -- ---- one line
 
@@ -139,9 +140,18 @@ module _ (s : List ℕ) (n : ℕ) where
       on : sheetLines (n - i) (spotAt 0 s at) ≡ afterLine (n - (i + 1)) s t
       on = rw left (line-at (n - (i + 1)) s at t e)
 
-      pub line-cut : (place : ℕ) → t ≡ Cut place → SheetRead s n said (Refused notThreeEach place)
+      pub line-cut : (place : ℕ) → t ≡ Cut place → LinesRead s n said (record { lines = i; place = place })
       unfolding afterLine
-      line-cut place g = record { is = sym (w .rest ∙ ap (behind (each (saidLine said) 0 i)) (on ∙ ap (afterLine (n - (i + 1)) s) g)); long = w .long }
+      line-cut place g =
+          record {
+            cut =
+                λ lt. record {
+                  is = sym (w .rest ∙ ap (behind (each (saidLine said) 0 i)) (on ∙ ap (afterLine (n - (i + 1)) s) g));
+                  long = w .long;
+                };
+            whole = λ le. let z : ⊥ = omega arith in elim z [ ];
+            low = omega arith;
+          }
 
       pub line-put : (a b d next : ℕ) → t ≡ Read a b d next → n ≤ 512
           → SheetReading s n (set (set (set said (i * 3 + 0) a) (i * 3 + 1) b) (i * 3 + 2) d) next (i + 1)
@@ -156,24 +166,43 @@ module _ (s : List ℕ) (n : ℕ) where
             long = put-long said i a b d (w .long) (omega arith);
           }
 
-    module _ (h : n ≤ i) where
-      done : n - i ≡ 0
-      done = omega arith
-
-      all-lines : i ≡ n
-      all-lines = omega (arith, w .low)
-
-      pub bytes-left : at < length s → SheetRead s n said (Refused notThreeEach at)
-      unfolding sheetLines _>>=_ demand
-      bytes-left lt =
-          record { is = sym (w .rest ∙ rw (done, ne-eqb (length (drop at s)) 0 (λ z. omega (arith, length-drop at s)), zero-add at)); long = w .long }
-
-      pub sheet-read : length s ≤ at → SheetRead s n said Accepted
-      unfolding sheetLines _>>=_ demand
-      sheet-read le =
-          record { is = sym (w .rest ∙ rw (done, eq-eqb (length (drop at s)) 0 (omega (arith, length-drop at s)), append-nil, all-lines)); long = w .long }
+    pub lines-read : n ≤ i → LinesRead s n said (record { lines = n; place = at })
+    lines-read h =
+        let e : i ≡ n = omega (arith, w .low) in
+        record { cut = λ lt. let z : ⊥ = omega arith in elim z [ ]; whole = λ le. rw e at w; low = omega arith }
 
     pub said-long : length said ≡ 1536
     said-long = w .long
 
-pub ruleset sheet-read-laws = (nothing-read, line-cut, line-put, bytes-left, sheet-read, said-long)
+pub ruleset lines-read-laws = (nothing-read, line-cut, line-put, lines-read, said-long)
+
+-- ---- nothing after the last line
+
+module _ (s : List ℕ) (n : ℕ) (said : List ℕ) (r : Reach) (l : LinesRead s n said r) where
+  pub lines-cut : r .lines < n → SheetRead s n said (Refused notThreeEach (r .place))
+  lines-cut = l .cut
+
+  module _ (h : n ≤ r .lines) where
+    every-line : SheetReading s n said (r .place) n
+    every-line = l .whole h
+
+    done : n - n ≡ 0
+    done = omega arith
+
+    pub bytes-left : r .place < length s → SheetRead s n said (Refused notThreeEach (r .place))
+    unfolding sheetLines _>>=_ demand
+    bytes-left lt =
+        record {
+          is = sym (every-line .rest ∙ rw (done, ne-eqb (length (drop (r .place) s)) 0 (λ z. omega (arith, length-drop (r .place) s)), zero-add (r .place)));
+          long = every-line .long;
+        }
+
+    pub sheet-read : length s ≤ r .place → SheetRead s n said Accepted
+    unfolding sheetLines _>>=_ demand
+    sheet-read le =
+        record {
+          is = sym (every-line .rest ∙ rw (done, eq-eqb (length (drop (r .place) s)) 0 (omega (arith, length-drop (r .place) s)), append-nil));
+          long = every-line .long;
+        }
+
+pub ruleset sheet-read-laws = (lines-cut, bytes-left, sheet-read)

@@ -1,9 +1,10 @@
 -- What a sheet says, in memory: three words for each line.
 use mathlib.Core.Path.{_≡_}
 use mathlib.Core.List.{List, [], _∷_, _++_}
-use Prim.Native.Nat.{ℕ, zero, suc, _+_, _-_, _*_, _≤_}
+use Prim.Native.Nat.{ℕ, zero, suc, _+_, _-_, _*_, _≤_, _<_}
 use lib.ListN.{getD, length}
 use Rattle.rules.specs.Basics.{Answer, refused, ok}
+use Rattle.rules.specs.Refusals.{notThreeEach}
 use Rattle.rules.specs.Number.{startOf}
 use Rattle.rules.specs.OwnSheet.{SheetLine}
 use Rattle.rules.specs.SheetCheck.{sheetLines}
@@ -11,6 +12,7 @@ use Rattle.number.specs.Reading.{spotAt}
 use Rattle.numbers.specs.Rows.{Many, all, cut, manyAt}
 use Rattle.said.specs.declared.Checked.{Checked}
 use Rattle.said.specs.declared.Checked.the-variants.{Accepted, Refused}
+use Rattle.said.specs.declared.Reach.{Reach}
 use Rattle.said.specs.declared.Three.{Three}
 use Rattle.said.specs.declared.Three.the-variants.{Read, Cut}
 
@@ -57,3 +59,9 @@ pub record SheetReading (sheet : List ℕ) (n : ℕ) (said : List ℕ) (at i : �
   pub rest : sheetLines n (startOf sheet) ≡ behind (each (saidLine said) 0 i) (sheetLines (n - i) (spotAt 0 sheet at))
   pub low : i ≤ n
   pub long : length said ≡ 1536
+
+-- lines below the first that can't be read, or all of them up to a place
+pub record LinesRead (sheet : List ℕ) (n : ℕ) (said : List ℕ) (r : Reach) : Type 0 where
+  pub cut : r .lines < n → SheetRead sheet n said (Refused notThreeEach (r .place))
+  pub whole : n ≤ r .lines → SheetReading sheet n said (r .place) n
+  pub low : r .lines ≤ n

@@ -4,7 +4,7 @@ ghost use mathlib.Core.Path.{_≡_};
 ghost use Prim.Native.Nat.{_≤_};
 ghost use lib.ListN.{length};
 ghost use Rattle.rules.specs.Limits.{mostSatisfactionOrders};
-ghost use Rattle.said.specs.Said.{threeAt, SheetRead};
+ghost use Rattle.said.specs.Said.{threeAt, LinesRead, SheetRead};
 use number::Field;
 use rows::Refusal;
 
@@ -68,20 +68,23 @@ fn read_line(sheet: &[u8], at: usize) -> Three
     }
 }
 
-// 20: "exactly three readable numbers per Satisfaction Order". Where the sheet ends too early, no number can be read at its end.
-pub fn read_sheet(sheet: &[u8], n: usize, said: &mut [u32; 1536]) -> Checked
+// How many lines could be read, and the place after the last of them, or of the number that can't be read.
+pub struct Reach {
+    pub lines: usize,
+    pub place: usize,
+}
+
+// The first n lines of a sheet, or those before a number that can't be read.
+pub fn read_lines(sheet: &[u8], n: usize, said: &mut [u32; 1536]) -> Reach
     requires { ⌜ (n ≤ mostSatisfactionOrders) × (length (now said) ≡ 1536) ⌝ }
-    ensures { λ r. ⌜ SheetRead (now (sheet .entry)) n (now (said .exit)) r ⌝ }
+    ensures { λ r. ⌜ LinesRead (now (sheet .entry)) n (now (said .exit)) r ⌝ }
 {
     let mut at: usize = 0;
     let mut i: usize = 0;
     while i < n {
         match read_line(sheet, at) {
             Three::Cut(place) => {
-                return Checked::Refused {
-                    no: Refusal::NOT_THREE_EACH,
-                    place,
-                };
+                return Reach { lines: i, place };
             }
             Three::Read {
                 reason,
@@ -97,10 +100,29 @@ pub fn read_sheet(sheet: &[u8], n: usize, said: &mut [u32; 1536]) -> Checked
         }
         i += 1;
     }
-    if at < sheet.len() {
+    Reach {
+        lines: n,
+        place: at,
+    }
+}
+
+// 20: "exactly three readable numbers per Satisfaction Order". Where the sheet ends too early, no number can be read at its end.
+pub fn read_sheet(sheet: &[u8], n: usize, said: &mut [u32; 1536]) -> Checked
+    requires { ⌜ (n ≤ mostSatisfactionOrders) × (length (now said) ≡ 1536) ⌝ }
+    ensures { λ r. ⌜ SheetRead (now (sheet .entry)) n (now (said .exit)) r ⌝ }
+{
+    let reach = read_lines(sheet, n, said);
+    let place = reach.place;
+    if reach.lines < n {
         return Checked::Refused {
             no: Refusal::NOT_THREE_EACH,
-            place: at,
+            place,
+        };
+    }
+    if place < sheet.len() {
+        return Checked::Refused {
+            no: Refusal::NOT_THREE_EACH,
+            place,
         };
     }
     Checked::Accepted

@@ -5,8 +5,10 @@ use rows::Numbers;
 use rows::Rec;
 use rows::Seat;
 
-// What a record reads of the moment before it is read before it is written: a Satisfaction Order's trade, then a trade's quotes,
-// statuses and orders. `closing`: whether the closing window has begun before this record.
+// Each step is lent the tables of the moment before the record, as its contract asks: so a Satisfaction Order comes before trades
+// are kept, and a trade before sent orders, quotes and statuses are. The tables would be the same in any order after
+// `found_block`: a record has one kind, and no step writes for it what another reads. `closing`: whether the closing window has
+// begun before this record.
 pub fn keep(
     q: &mut [u32; 2048],
     st: &mut [u32; 8],

@@ -25,15 +25,16 @@ pub record Takes (bytes : List ℕ) (most width : ℕ) : Type 0 where
 
 -- ---- all or nothing, from the front of the lent memory
 
--- "A writer's place is always 0"
+-- the answer of a writer in memory: the place after its last byte, or the refusal's number at 0 ("A writer's place is always 0")
 abbrev pub asAnswer : Written → Answer ℕ
 asAnswer (To next) = ok next
 asAnswer (Refused n) = refused n noPlace
 
+-- some bytes, or a refusal, as what a writer of them answers: how many they are, or the refusal
 abbrev pub counted : Answer (List ℕ) → Answer ℕ
 counted answer = answer >>= λ bytes. ok (length bytes)
 
--- the bytes where they have room, or 9: what is answered, and every lent byte afterwards
+-- these bytes at the front of the lent memory where they have room, or 9: what is answered, and every lent byte afterwards
 pub record Writes (before bytes : List ℕ) (r : Written) (after : List ℕ) : Type 0 where
   pub answer : asAnswer r ≡ counted (into (length before) bytes)
   pub lent : after ≡ lentAfter (into (length before) bytes) before

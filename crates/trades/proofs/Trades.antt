@@ -19,7 +19,7 @@ use Rattle.rules.proofs.Histories.{count-cons, count-skip, tradeAt-older, trade
 use Rattle.rows.specs.Rows.{Reads, word, Put, RecOk}
 use Rattle.rows.specs.declared.Rec.{Rec}
 use Rattle.orders.specs.Orders.{Headed}
-use Rattle.trades.specs.Trades.{snap, snapAt, tradeRow, Traded, Snaps, SidesAre, CapIs, Placed, TradesStep}
+use Rattle.trades.specs.Trades.{snap, snapAt, snapWords, tradeRow, Traded, Snaps, SidesAre, CapIs, Placed, TradesStep}
 
 -- ---- a record of another kind
 
@@ -61,7 +61,7 @@ module _ (r : Rec) (home exchanges : ℕ) (sizes : List ℕ) (block closing : Bo
             let isT : isTrade e ≡ true = eq-eqb (e .kind) tradeKind ek in
             let newT : tradeAt n (e ∷ past) ≡ e = tradeAt-new n e past isT (held .numbered) in
             let newB : beforeTrade n (e ∷ past) ≡ past = beforeTrade-new n e past isT (held .numbered) in
-            let there : (y i : ℕ) → y < h .exchanges → i < 5 → getD sn2 ((n * 8 + y) * 8 + i) 0 ≡ getD (snapAt e past y) i 0 =
+            let there : (y i : ℕ) → y < h .exchanges → i < snapWords → getD sn2 ((n * 8 + y) * 8 + i) 0 ≡ getD (snapAt e past y) i 0 =
             λ y i hy hi. (let hx : y < exchanges = (let z = is .exchanges in omega arith) in
             rw (es .0, rd .fields 0, rd .fields 1, ← rd .time) at (k .here past qs ss os y i hx hi)) in
             let sides : SidesAre h past (trade e) sn2 n =

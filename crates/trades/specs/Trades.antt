@@ -12,16 +12,16 @@ use Rattle.rules.specs.Record.{buy, sell, Event, Trade, trade, isTrade, tradeKi
 use Rattle.rules.specs.Journal.{History, count, tradeAt, beforeTrade, closingBegun}
 use Rattle.rules.specs.Prices.{standing, statusOf, upTo}
 use Rattle.rules.specs.Verdicts.{theBid, neither, through, sideThrough, isBlock}
-use Rattle.rules.specs.Reasons.{hadSent, report}
+use Rattle.rules.specs.Reasons.{report}
 use Rattle.rules.specs.Due.{customerFirmSize, capped}
 use Rattle.rows.specs.Rows.{Reads, TradeOk}
 use Rattle.rows.specs.declared.Rec.{Rec}
 use Rattle.quotes.specs.Tables.{Quoted, Statuses}
 use Rattle.orders.specs.Orders.{Heads}
-use Rattle.excuses.specs.Excuses.{Excused}
+use Rattle.excuses.specs.Excuses.{excuserOf, Excused}
 
 -- ---- what is kept of exchange y + 1 at a trade in series s, at this price and time: the side traded through, the price and the
--- customer contracts there, its status, whether home is excused
+-- customer contracts there, its status, which sent order excuses home, the series
 
 unfoldable pub priceOn : ℕ → ℕ → ℕ → ℕ
 priceOn side bid offer = if side == theBid then bid else offer
@@ -33,16 +33,20 @@ customersOn side bids offers = if side == neither then 0 else if side == theBid 
 unfoldable pub excusingSide : ℕ → ℕ
 excusingSide side = if side == theBid then sell else buy
 
--- asked of an exchange traded through alone
-unfoldable pub excuseAt : ℕ → ℕ → ℕ → ℕ → History → Bool
-excuseAt side x s now past = if side == neither then false else hadSent x s (excusingSide side) now past
+-- one above the number of the sent order that excuses, 0 where none does; asked of an exchange traded through alone
+unfoldable pub excuserAt : ℕ → ℕ → ℕ → ℕ → History → ℕ
+excuserAt side x s now past = if side == neither then 0 else excuserOf x s (excusingSide side) now past
 
 unfoldable pub snap : History → ℕ → ℕ → ℕ → ℕ → List ℕ
 snap past y s price now =
     let q = standing (y + 1) s past in
     let side = through q price in
     side ∷ priceOn side (q .bid) (q .offer) ∷ customersOn side (q .bidCustomers) (q .offerCustomers)
-    ∷ statusOf (y + 1) past ∷ bit (excuseAt side (y + 1) s now past) ∷ []
+    ∷ statusOf (y + 1) past ∷ excuserAt side (y + 1) s now past ∷ s ∷ []
+
+-- how many words a snapshot has
+abbrev pub snapWords : ℕ
+snapWords = 6
 
 abbrev pub snapAt : Event → History → ℕ → List ℕ
 snapAt e before y = snap before y ((trade e) .series) ((trade e) .price) (e .time)
@@ -60,7 +64,7 @@ tradeRow h e before =
 pub record Traded (h : Header) (past : History) (tr sn : List ℕ) (n : ℕ) : Type 0 where
   pub numbered : n ≡ count isTrade past
   pub rows : (m i : ℕ) → m < n → i < 8 → getD tr (m * 8 + i) 0 ≡ getD (tradeRow h (tradeAt m past) (beforeTrade m past)) i 0
-  pub snaps : (m y i : ℕ) → m < n → y < h .exchanges → i < 5
+  pub snaps : (m y i : ℕ) → m < n → y < h .exchanges → i < snapWords
       → getD sn ((m * 8 + y) * 8 + i) 0 ≡ getD (snapAt (tradeAt m past) (beforeTrade m past) y) i 0
 
 -- ---- the cap
@@ -78,16 +82,16 @@ caps x home side size ours theirs = not (x == home) && not (side == neither) && 
 -- ---- contracts
 
 pub record ExcuseIs (t : List ℕ) (orders side x s now r : ℕ) : Type 0 where
-  pub so : (past : History) → Excused past t orders → r ≡ bit (excuseAt side x s now past)
+  pub so : (past : History) → Excused past t orders → r ≡ excuserAt side x s now past
 
 pub record Snapped (q st t : List ℕ) (orders y s price now : ℕ) (row : List ℕ) : Type 0 where
   pub is : (past : History) → Quoted past q → Statuses past st → Excused past t orders
-      → (i : ℕ) → i < 5 → getD row i 0 ≡ getD (snap past y s price now) i 0
+      → (i : ℕ) → i < snapWords → getD row i 0 ≡ getD (snap past y s price now) i 0
 
 -- the first k exchanges are kept for trade n; every other row is as it was
 pub record Snaps (q st t : List ℕ) (orders n s price now : ℕ) (before after : List ℕ) (k : ℕ) : Type 0 where
   pub here : (past : History) → Quoted past q → Statuses past st → Excused past t orders
-      → (y i : ℕ) → y < k → i < 5 → getD after ((n * 8 + y) * 8 + i) 0 ≡ getD (snap past y s price now) i 0
+      → (y i : ℕ) → y < k → i < snapWords → getD after ((n * 8 + y) * 8 + i) 0 ≡ getD (snap past y s price now) i 0
   pub others : (m y i : ℕ) → y < 8 → i < 8 → (m ≡ n → ⊥) → getD after ((m * 8 + y) * 8 + i) 0 ≡ getD before ((m * 8 + y) * 8 + i) 0
   pub long : length after ≡ length before
 

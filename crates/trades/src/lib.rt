@@ -38,7 +38,7 @@ impl Kept {
 }
 
 // What is kept of an exchange at a trade: the side traded through, the price and the customer contracts there, its status,
-// whether home is excused.
+// which sent order excuses home, the trade's series.
 pub struct Snap;
 
 impl Snap {
@@ -50,7 +50,11 @@ impl Snap {
 
     pub const STATUS: usize = 3;
 
-    pub const EXCUSED: usize = 4;
+    // One above the number of the sent order that excuses home, 0 where none does.
+    pub const EXCUSER: usize = 4;
+
+    // For a clerk, and no verdict looks at it.
+    pub const SERIES: usize = 5;
 }
 
 fn price_on(side: u32, bid: u32, offer: u32) -> u32
@@ -79,7 +83,7 @@ fn excusing_side(side: u32) -> u32
     }
 }
 
-// Whether home is excused at exchange x, asked only where the trade went through it.
+// What excuses home at exchange x, asked only where the trade went through it.
 fn excuse(
     t: &[u32; 2048],
     ch: &[u32; 512],
@@ -96,7 +100,7 @@ fn excuse(
     if side == Side::NEITHER {
         return 0;
     }
-    rows::bit_of(excuses::had_sent(t, ch, orders, x, s, excusing_side(side), time))
+    excuses::excuser(t, ch, orders, x, s, excusing_side(side), time)
 }
 
 // What is kept of exchange y + 1 at a trade.
@@ -129,7 +133,7 @@ fn snap_row(
         ),
         st[y],
         excuse(t, ch, orders, side, y + 1, s, time),
-        0,
+        excuses::number(s),
         0,
         0,
     ]

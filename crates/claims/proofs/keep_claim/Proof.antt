@@ -73,8 +73,11 @@ array-read-t21 c = search (line-laws, needs)
 array-read-t35 : tie.Need-array-read-t35
 array-read-t35 c = search (line-laws, needs)
 
-array-read-t44 : tie.Need-array-read-t44
-array-read-t44 c = search (line-laws, needs)
+array-read-t42 : tie.Need-array-read-t42
+array-read-t42 c = search (line-laws, needs)
+
+array-read-t45 : tie.Need-array-read-t45
+array-read-t45 c = search (line-laws, needs)
 
 file-line-requires : tie.Need-file-line-requires
 file-line-requires c κs =
@@ -118,7 +121,8 @@ keep-claim-spec =
     claim-of-requires
     array-read-t21
     array-read-t35
-    array-read-t44
+    array-read-t42
+    array-read-t45
     file-line-requires
     add-result
     returns-2)

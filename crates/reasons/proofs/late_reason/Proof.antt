@@ -4,21 +4,21 @@ use Rattle.reasons.proofs.late_reason.Statement.{statement}
 use Rattle.reasons.proofs.late_reason.Tie as tie
 use Rattle.reasons.proofs.late_reason.Reads as reads
 use Rattle.reasons.proofs.late_reason.Lts as lts
+use Rattle.reasons.proofs.allowed.Reads as allowed-reads
 use Rattle.reasons.proofs.both.Reads as both-reads
-use Rattle.reasons.proofs.is_late.Reads as is-late-reads
 use Rattle.reasons.proofs.later_than.Reads as later-than-reads
 
-is-late-requires : tie.Need-is-late-requires
-is-late-requires c κs = search (reason-laws, needs)
+allowed-requires : tie.Need-allowed-requires
+allowed-requires c κs = search (reason-laws, needs)
+
+later-than-requires : tie.Need-later-than-requires
+later-than-requires c κs = search (reason-laws, needs)
 
 both-requires : tie.Need-both-requires
 both-requires c κs = search (reason-laws, needs)
 
 returns : tie.Need-returns
 returns c = search (reason-laws, needs)
-
-later-than-requires : tie.Need-later-than-requires
-later-than-requires c κs = search (reason-laws, needs)
 
 both-requires-2 : tie.Need-both-requires-2
 both-requires-2 c κs = search (reason-laws, needs)
@@ -33,10 +33,10 @@ pub late-reason-spec : {M : Type 1} → statement M
 late-reason-spec =
     tie.close
     (tie.spec
-    is-late-requires
+    allowed-requires
+    later-than-requires
     both-requires
     returns
-    later-than-requires
     both-requires-2
     returns-2
     returns-3)

@@ -4,6 +4,7 @@ use Rattle.trades.proofs.snap_row.Statement.{statement}
 use Rattle.trades.proofs.snap_row.Tie as tie
 use Rattle.trades.proofs.snap_row.Reads as reads
 use Rattle.trades.proofs.snap_row.Lts as lts
+use Rattle.excuses.proofs.number.Reads as number-reads
 use Rattle.quotes.proofs.row_of.Reads as row-of-reads
 use Rattle.through.proofs.through_side.Reads as through-side-reads
 use Rattle.trades.proofs.customers_on.Reads as customers-on-reads
@@ -76,6 +77,9 @@ add-excuse c = search (snap-laws, needs)
 excuse-requires : tie.Need-excuse-requires
 excuse-requires c κs = search (snap-laws, needs)
 
+number-requires : tie.Need-number-requires
+number-requires c κs = search (snap-laws, needs)
+
 returns : tie.Need-returns
 returns c = search (snap-laws, needs)
 
@@ -105,4 +109,5 @@ snap-row-spec =
     element-copy-out-t33
     add-excuse
     excuse-requires
+    number-requires
     returns)

@@ -2,10 +2,11 @@ use Prim.Native.Nat.{_+_, _-_, _*_}
 use Rattle.excuses.proofs.Look.{look-laws}
 use Rattle.excuses.specs.Excuses.{Looking}
 use borrow.Author.Needs.{needs}
-use Rattle.excuses.proofs.had_sent.Statement.{statement}
-use Rattle.excuses.proofs.had_sent.Tie as tie
-use Rattle.excuses.proofs.had_sent.Reads as reads
-use Rattle.excuses.proofs.had_sent.Lts as lts
+use Rattle.excuses.proofs.excuser.Statement.{statement}
+use Rattle.excuses.proofs.excuser.Tie as tie
+use Rattle.excuses.proofs.excuser.Reads as reads
+use Rattle.excuses.proofs.excuser.Lts as lts
+use Rattle.excuses.proofs.number.Reads as number-reads
 use Rattle.excuses.proofs.still_excuses.Reads as still-excuses-reads
 use Rattle.quotes.proofs.row_of.Reads as row-of-reads
 use Rattle.rows.proofs.index.Reads as index-reads
@@ -37,6 +38,9 @@ sub-still-excuses c = search (look-laws, needs)
 still-excuses-requires : tie.Need-still-excuses-requires Inv-loop μ-loop
 still-excuses-requires c κs = search (look-laws, needs)
 
+number-requires : tie.Need-number-requires Inv-loop μ-loop
+number-requires c κs = search (look-laws, needs)
+
 returns : tie.Need-returns Inv-loop μ-loop
 returns c = search (look-laws, needs)
 
@@ -64,8 +68,8 @@ loop-again c = search (look-laws, needs)
 returns-2 : tie.Need-returns-2 Inv-loop μ-loop
 returns-2 c = search (look-laws, needs)
 
-pub had-sent-spec : {M : Type 1} → statement M
-had-sent-spec =
+pub excuser-spec : {M : Type 1} → statement M
+excuser-spec =
     tie.close
     (tie.spec
     Inv-loop
@@ -77,6 +81,7 @@ had-sent-spec =
     loop-holds
     sub-still-excuses
     still-excuses-requires
+    number-requires
     returns
     sub-index
     add-index
