@@ -4,8 +4,11 @@
  * Every function answers one number, refusal * 2^32 + place. Refusal 0 means accepted: then the low 32 bits are how many
  * elements of `out` were written, from its start, and the rest of `out` is as it was (0 for a function without `out`). Any
  * other refusal is one of document 01's table, with its place, or HASURENTA_WRONG_COUNT, and all of `out` is as it was.
- * A record's kind is one of document 01's 1 to 7, or document 02's 9, without fields: the closing window has begun. It prints
- * nothing, a second is 7, and of each trade after it every claim is at most 10 contracts.
+ * A record's kind is one of document 01's 1 to 7, or one of two of document 02, which print nothing:
+ * 8, the number of a Satisfaction Order and an exchange: home cancels the order and names the initiator of its trade. In time
+ * that makes reason 14, judged after 9 and before 11, with claim 0; late, it changes nothing. A number that is no exchange's is
+ * 5. An order that is not there or was cancelled before, a trade without initiator, an exchange that is not the initiator: 7.
+ * 9, without fields: the closing window has begun. A second is 7; of each trade after it every claim is at most 10 contracts.
  * What each function answers is proved for every input: crates/desk/src/lib.rt has the statement over it.
  *
  * A slice is a pointer and a count of elements, and NULL with 0 is an empty one. Nothing is asked of what the slices hold

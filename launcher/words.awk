@@ -3,7 +3,7 @@
 # in front and filled up to one length; with way=text the lines of numbers of the program decode become a text.
 
 BEGIN {
-    kinds = split("quote status trade sent response received satisfaction - closing", kind, " ")
+    kinds = split("quote status trade sent response received satisfaction naming closing", kind, " ")
     # "when" is "after" with milliseconds since the record before, or "at" with a clock time
     names["header"] = "home exchanges close sizes"
     names["quote"] = "when exchange series bid size customers offer size customers"
@@ -13,8 +13,9 @@ BEGIN {
     names["response"] = "when order filled"
     names["received"] = "when type from series side price size"
     names["satisfaction"] = "when trade from price size"
+    names["naming"] = "when claim exchange"
     names["closing"] = "when"
-    for (k = 1; k <= kinds; k++) if (kind[k] in names) {
+    for (k = 1; k <= kinds; k++) {
         number[kind[k]] = k
         known = known ", " kind[k]
     }

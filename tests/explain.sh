@@ -1,7 +1,7 @@
 #!/bin/sh
 # What explain says of a clerk's first day, examples/clerk.day: alone (tests/explain/alone), beside a good sheet (tests/explain/good), and beside
 # damaged ones. Of these tests/explain/NAME has what differs from the words beside the good sheet, as diff prints it: where the sheet
-# was refused, and what it says there.
+# was refused, and what it says there. Then the same of tests/explain/named.day, where home cancels orders and names who initiated the trade.
 set -u
 cd "$(dirname "$0")/.." || exit 1
 work=$(mktemp -d) || exit 1
@@ -58,6 +58,18 @@ while IFS= read -r line; do
     grep -qxF -e "$line" "$work/short" || { echo "explain: never told: $line"; wrong=$((wrong + 1)); }
 done <"$work/shown"
 
-[ "$tried" -eq "$(ls tests/explain | wc -l)" ] || { echo 'explain: tests/explain has a file that nothing is held to'; wrong=$((wrong + 1)); }
+./hasurenta encode tests/explain/named.day >"$work/journal" || exit 1
+./hasurenta explain "$work/journal" >"$work/told" || exit 1
+held named "$work/told"
+told 0 named-good '\016\000\062\000\017\000\011\000\014\016\000\036\000\017\000'
+cp "$work/told" "$work/good"
+held named-good "$work/good"
+
+# A cancellation that came late is taken for one in time; one in time is put before the reason that stands; an order that was cancelled in time is filled.
+damaged named-late '\016\000\062\016\000\017\011\000\014\016\000\036\000\017\000'
+damaged named-over-nine '\016\000\062\000\017\000\016\000\014\016\000\036\000\017\000'
+damaged named-and-filled '\016\036\024\000\017\000\011\000\014\016\000\036\000\017\000'
+
+[ "$tried" -eq "$(ls tests/explain | grep -cv '\.day$')" ] || { echo 'explain: tests/explain has a file that nothing is held to'; wrong=$((wrong + 1)); }
 echo "explain: $tried days told, $wrong wrong"
 [ "$wrong" -eq 0 ]

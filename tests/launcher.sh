@@ -76,7 +76,7 @@ for text in examples/*.day; do
     expect 0 check - "$sheet" <"$journal"; wrote accepted
     expect 0 check "$journal" - <"$sheet"; wrote accepted
 done
-[ "$tried" -ge 117 ] || { what=examples; fail "only $tried tries"; }
+[ "$tried" -ge 143 ] || { what=examples; fail "only $tried tries"; }
 
 d=$work/day-d.journal
 printf '\001\002\200\320\273\033\012\012\012\012\001\350\007\002\000\156\024\017\170\024\000\003\000\000\144\014\000\000\000\000\007\350\007\000\002\156\024' >"$work/bytes"
@@ -220,7 +220,7 @@ faulty 'line 2: expected a number after "series", found "zero"' "$h\nquote after
 faulty 'line 2: expected a number after "after", found the end of the line' "$h\nstatus after"
 faulty 'line 2: expected "state", found the end of the line' "$h\nstatus after 0 exchange 2\n"
 faulty 'line 3: unknown word "now", expected the end of the line' "$h\n# so far good\nstatus after 0 exchange 2 state 1 now\n"
-faulty 'line 2: unknown word "qoute", expected a kind: header, quote, status, trade, sent, response, received, satisfaction, closing' "$h\nqoute after 0\n"
+faulty 'line 2: unknown word "qoute", expected a kind: header, quote, status, trade, sent, response, received, satisfaction, naming, closing' "$h\nqoute after 0\n"
 faulty 'line 1: expected the header first, found "status"' 'status after 0 exchange 2 state 1\n'
 faulty 'line 3: a second header' "$h\n\n$h\n"
 faulty 'line 1: expected 4 sizes, found 3' 'header home 1 exchanges 2 close 57600000 sizes 10 10 10\n'
@@ -238,6 +238,18 @@ faulty 'line 2: refused 7' "$h\nresponse after 0 order 0 filled 0\nstatus after 
 faulty 'line 4: refused 7' "$h\nclosing after 0\n$q\nclosing after 1\n"
 faulty 'line 2: expected a number after "after", found the end of the line' "$h\nclosing after"
 faulty 'line 2: unknown word "series", expected the end of the line' "$h\nclosing after 0 series 0\n"
+# Whom a record may name that cancels a Satisfaction Order, and that it does so once, in time or late.
+t='trade after 0 series 0 price 100 size 12 form 0 complex 0 initiator'
+f='satisfaction after 1 trade 0 from 2 price 110 size 5'
+faulty 'line 4: refused 7' "$h\n$t 2 delay 0\n$f\nnaming after 0 claim 1 exchange 2\n"
+faulty 'line 4: refused 7' "$h\n$t 0 delay 0\n$f\nnaming after 0 claim 0 exchange 2\n"
+faulty 'line 4: refused 7' "$h\n$t 2 delay 0\n$f\nnaming after 0 claim 0 exchange 1\n"
+faulty 'line 4: refused 5' "$h\n$t 2 delay 0\n$f\nnaming after 0 claim 0 exchange 0\n"
+faulty 'line 4: refused 5' "$h\n$t 2 delay 0\n$f\nnaming after 0 claim 1 exchange 3\n"
+for late in 0 180001; do
+    faulty 'line 5: refused 7' "$h\n$t 2 delay 0\n$f\nnaming after $late claim 0 exchange 2\nnaming after 0 claim 0 exchange 2\n"
+done
+faulty 'line 2: unknown word "order", expected "claim"' "$h\nnaming after 0 order 0 exchange 2\n"
 awk -v h="$h" -v q="$q" 'BEGIN { print h; for (i = 0; i < 3000; i++) print q }' >"$work/text"
 expect 1 encode "$work/text"; wrote_nothing; named 'refused 1'
 printf '  header\thome 01 exchanges 2 close 57600000 sizes 10 10 10 0000000000010 # all in one line\r\n\r\n' >"$work/text"

@@ -1,7 +1,8 @@
 #!/bin/sh
 # docs/NUMBERS.md, the launcher's words and the definitions name the same numbers:
 # - each refusal of crates/rules/specs/Refusals.antt, and no other, stands in launcher/refusals and on the page, in the same words;
-# - each reason that crates/rules/specs/Reasons.antt can give, and 0, and no other, stands on the page, and its rule in the words of explain;
+# - each reason that crates/rules/specs/Reasons.antt can give, and 0, and no other, stands on the page, and its rule in the words of explain; the
+#   same are taken for a reason by launcher/hints.sh;
 # - each letter that crates/rules/specs/PrintedDay.antt prints, and each kind of crates/rules/specs/Record.antt, and no other, stands on the page.
 set -u
 cd "$(dirname "$0")/.." || exit 1
@@ -30,9 +31,12 @@ grep -v '^#' "$table" | sort >"$found/words"
 rows Refusals | sed 's/^| \([^|]* | [^|]* | [^|]*\) | [^|]* |$/\1/' | sort >"$found/page"
 same "the launcher's words, and those of the page" "$found/words" "$found/page"
 
-{ awk '/^reason h k =/ { on = 1 } on' "$specs/Reasons.antt" | grep -o '[0-9][0-9]* when ' | tr -d ' when'; echo 0; } | sort >"$found/given"
+{ awk '/^reasonRows h k =/ { on = 1 } on' "$specs/Reasons.antt" | grep -o '[0-9][0-9]* when ' | tr -d ' when'; echo 0; } | sort >"$found/given"
 rows Reasons | first_column >"$found/told"
 same 'reasons defined, and those of the page' "$found/given" "$found/told"
+awk "$(sed -n 's/^ *\(function is_reason\)/\1/p' launcher/hints.sh)
+    BEGIN { for (n = 0; n < 1000; n++) if (is_reason(n)) print n }" | sort >"$found/taken"
+same 'reasons defined, and those that the launcher takes for one' "$found/given" "$found/taken"
 rows Reasons | sed 's/.* | \([^|]*\) |$/\1/' >"$found/rules"
 while read -r rule; do
     looked=$((looked + 1))

@@ -119,6 +119,11 @@ WORK=$work awk '
     function counted(kind, given) {
         if ((kind in fields) && given != fields[kind]) unfit("kind " kind " has " fields[kind] " fields, not " given)
     }
+    # A kind that is not known may be given any number of fields; `ask` takes eight.
+    function asked(kind, eighth,    last) {
+        for (last = words; last > eighth && !(kind in fields); last--) number(w[last])
+        return last
+    }
     function read_record(a, b,    out) {
         ok(0)
         if (!no) {
@@ -132,7 +137,7 @@ WORK=$work awk '
         if (w[1] == "wheader") ask(op["wheader"], number(w[2]), head(3, words), "", no, place, written())
         else if (w[1] == "wrecord") {
             counted(w[bar + 2], words - bar - 3)
-            ask(op["wrecord"], number(w[2]), head(3, bar - 1) row(w, bar + 1, words, 11), "", no, place, written())
+            ask(op["wrecord"], number(w[2]), head(3, bar - 1) row(w, bar + 1, asked(w[bar + 2], bar + 11), 11), "", no, place, written())
         } else if (w[1] == "rrecord" && words == bar + 2) read_record(head(2, bar - 1) four(number(w[bar + 1])), raw(w[bar + 2]))
         else unfit("not a question: " w[1])
     }
@@ -141,9 +146,8 @@ WORK=$work awk '
         for (i = 0; i < 256; i++) hex[i] = sprintf("%02x", i)
         for (i = 1; i < 128; i++) letter[hex[i]] = sprintf("%c", i)
         for (i = split("journal day sheet check totals wheader wrecord rrecord rewrite", names, " "); i > 0; i--) op[names[i]] = i
-        # How many fields the kinds 1 to 7 have, and 9.
-        split("8 2 7 6 2 6 4", fields, " ")
-        fields[9] = 0
+        # How many fields the kinds 1 to 9 have.
+        split("8 2 7 6 2 6 4 2 0", fields, " ")
         # The room that is lent: what `ask` has, more than a journal needs, more than a refusal. And the refusal where it is too short.
         most = 131072
         plenty = 40000

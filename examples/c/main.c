@@ -71,7 +71,7 @@ static void one_record(void) {
     memcpy(numbers + HASURENTA_READ_NUMBERS, words + 1, 10 * sizeof *words);
     memset(out, 0xA5, sizeof out);
     expect("written again", hasurenta_write_record(numbers, HASURENTA_WRITE_NUMBERS, out, sizeof out) == QUOTE && holds(out, sizeof out, day_d + HEADER, QUOTE));
-    numbers[HASURENTA_READ_NUMBERS] = 8;
+    numbers[HASURENTA_READ_NUMBERS] = 0;
     expect("unknown kind", hasurenta_write_record(numbers, HASURENTA_WRITE_NUMBERS, out, sizeof out) == refusal(4, 0));
 }
 

@@ -157,7 +157,7 @@ fn split_header(words: &[u32]) -> (Header, &[u32]) {
     (Header::of_numbers(header), rest)
 }
 
-fn word_at(bytes: &[u8], at: usize) -> u32 {
+pub fn word_at(bytes: &[u8], at: usize) -> u32 {
     u32::from_le_bytes([bytes[at], bytes[at + 1], bytes[at + 2], bytes[at + 3]])
 }
 

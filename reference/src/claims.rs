@@ -1,6 +1,6 @@
 //! Home trades with the snapshot that judges their Satisfaction Orders: reasons, claims, due totals.
 
-use crate::event::{HomeTrade, Order, Quote, Response, SIDES, Satisfaction, Side, Status};
+use crate::event::{Cancellation, HomeTrade, Order, Quote, Response, SIDES, Satisfaction, Side, Status};
 use crate::header::{Exchanges, Header};
 use crate::journal::{Moment, Watcher};
 use crate::market::Market;
@@ -22,6 +22,7 @@ pub mod reason {
     pub const TRADE_PRICE_NO_BLOCK: u8 = 11;
     pub const NOT_THE_PRICE: u8 = 12;
     pub const NO_CUSTOMERS: u8 = 13;
+    pub const INITIATOR_NAMED: u8 = 14;
 }
 
 /// What a trade settles for one exchange: "prices, customer contracts and statuses are those at the trade".
@@ -60,6 +61,10 @@ impl Trade {
     /// One for each away exchange.
     pub const MOST_LINES: usize = Exchanges::MOST as usize - 1;
 
+    pub fn is_traded_through(&self, exchange: usize) -> bool {
+        self.standings[exchange].reason != reason::NOT_TRADED_THROUGH
+    }
+
     /// Its lines of the sheet, in their order.
     pub fn lines(&self) -> &[u16] {
         &self.lines[..self.line_count]
@@ -81,7 +86,7 @@ impl Trade {
         if self.larger_than_firm { self.size.min(sum_of_claims) } else { sum_of_claims }
     }
 
-    /// "Reasons on a Satisfaction Order, first that holds."
+    /// "Reasons on a Satisfaction Order, first that holds", as long as it is not cancelled.
     fn reason(&self, received: u32, order: &Satisfaction) -> u8 {
         let standing = &self.standings[order.from];
         if standing.reason != reason::NONE {
@@ -108,11 +113,29 @@ pub struct Line {
     pub size: u32,
     pub claim: u32,
     pub customers: u32,
+    /// A cancellation later than this is late.
+    pub last_cancellation: u32,
 }
 
 impl Line {
     /// "For a trade after it, each claim is also at most 10, and due totals follow."
     pub const MOST_CLAIM_AT_CLOSE: u32 = 10;
+
+    /// The reasons judged after 14, and none at all.
+    pub fn gives_way_to_cancellation(&self) -> bool {
+        matches!(
+            self.reason,
+            reason::NONE | reason::TRADE_PRICE_NO_BLOCK | reason::NOT_THE_PRICE | reason::NO_CUSTOMERS
+        )
+    }
+
+    /// "A cancellation in time makes reason 14, judged after 9 and before 11, with claim 0."
+    pub fn cancel_in_time(&mut self) {
+        if self.gives_way_to_cancellation() {
+            self.reason = reason::INITIATOR_NAMED;
+            self.claim = 0;
+        }
+    }
 }
 
 pub struct Desk<'h> {
@@ -167,8 +190,14 @@ impl<'h> Desk<'h> {
     fn last_timely(&self, time: u32, trade: &HomeTrade) -> u32 {
         let report = time + trade.delay;
         let near_close = report >= self.header.close - Time::NEAR_CLOSE;
-        let to_claim = if near_close && !trade.initiated { Time::TO_CLAIM_NEAR_CLOSE } else { Time::TO_CLAIM };
+        let to_claim = if near_close && trade.initiator.is_none() { Time::TO_CLAIM_NEAR_CLOSE } else { Time::TO_CLAIM };
         report + to_claim
+    }
+
+    /// "Up to and including 180,000 ms after receiving it, or 60,000 if we received it at or after close less 300,000."
+    fn last_cancellation(&self, received: u32) -> u32 {
+        let near_close = received >= self.header.close - Time::NEAR_CLOSE;
+        received + if near_close { Time::TO_CANCEL_NEAR_CLOSE } else { Time::TO_CANCEL }
     }
 
     /// The reasons after 10 that are settled at the trade, in the paper's order.
@@ -179,7 +208,7 @@ impl<'h> Desk<'h> {
             reason::ORDER_UNANSWERED
         } else if sender == Status::NON_FIRM {
             reason::SENDER_NON_FIRM
-        } else if !trade.initiated && home == Status::NON_FIRM {
+        } else if trade.initiator.is_none() && home == Status::NON_FIRM {
             reason::HOME_NON_FIRM
         } else if sender == Status::ROTATION {
             reason::SENDER_IN_ROTATION
@@ -196,7 +225,7 @@ impl<'h> Desk<'h> {
         let mut trade = Trade {
             price: home_trade.price,
             size: home_trade.size,
-            initiated: home_trade.initiated,
+            initiated: home_trade.initiator.is_some(),
             block: self.is_block(home_trade),
             last_timely: self.last_timely(time, home_trade),
             traded_through: 0,
@@ -251,13 +280,22 @@ impl Watcher for Desk<'_> {
 
     /// "Claim: 0 for a reason other than 0."
     fn satisfaction_order(&mut self, at: Moment, order: &Satisfaction) {
+        let last_cancellation = self.last_cancellation(at.time);
         let trade = &mut self.trades[order.trade];
         let reason = trade.reason(at.time, order);
         let customers = trade.standings[order.from].customers;
         let claim = if reason == reason::NONE { trade.claim(order.size, customers) } else { 0 };
         trade.lines[trade.line_count] = self.lines.len() as u16;
         trade.line_count += 1;
-        self.lines.push(Line { reason, size: order.size, claim, customers });
+        self.lines.push(Line { reason, size: order.size, claim, customers, last_cancellation });
+    }
+
+    /// "A late one cancels and changes nothing."
+    fn cancellation(&mut self, at: Moment, cancellation: &Cancellation) {
+        let line = &mut self.lines[cancellation.order];
+        if at.time <= line.last_cancellation {
+            line.cancel_in_time();
+        }
     }
 
     fn closing_window(&mut self, _at: Moment) {

@@ -1,7 +1,7 @@
 //! "The printed day": a list of the verdicts, one line for each event that has one.
 
 use crate::claims::Desk;
-use crate::event::{HomeTrade, Order, Quote, Response, Satisfaction, Status};
+use crate::event::{Cancellation, HomeTrade, Order, Quote, Response, Satisfaction, Status};
 use crate::header::Header;
 use crate::journal::{Moment, Watcher, open, walk};
 use crate::market::Duty;
@@ -124,7 +124,11 @@ impl Watcher for Day<'_> {
         self.print(at, b'F', [0; 3]);
     }
 
-    /// "It prints nothing."
+    /// "It prints nothing, nor do kinds 8 and 11."
+    fn cancellation(&mut self, at: Moment, cancellation: &Cancellation) {
+        self.desk.cancellation(at, cancellation);
+    }
+
     fn closing_window(&mut self, at: Moment) {
         self.desk.closing_window(at);
     }

@@ -9,11 +9,11 @@ use crate::journal::{Moment, Watcher};
 use crate::refusal::{No, Refusal};
 use crate::{day, journal, sheet, vectors};
 
-const CLOSE: u32 = 57_600_000;
-const MORNING: u32 = 36_000_000;
+pub const CLOSE: u32 = 57_600_000;
+pub const MORNING: u32 = 36_000_000;
 
 /// Home 1 of four with firm sizes of ten, and these records.
-fn day_of(records: &[&[u32]]) -> Vec<u8> {
+pub fn day_of(records: &[&[u32]]) -> Vec<u8> {
     let mut journal = Vec::new();
     let header = [&[1, 4, CLOSE], &[10; 8][..]].concat();
     for &number in header.iter().chain(records.iter().copied().flatten()) {
@@ -22,11 +22,11 @@ fn day_of(records: &[&[u32]]) -> Vec<u8> {
     journal
 }
 
-fn printed(records: &[&[u32]]) -> String {
+pub fn printed(records: &[&[u32]]) -> String {
     String::from_utf8(day::printed(&day_of(records))).expect("lists are plain text")
 }
 
-fn own_sheet(journal: &[u8]) -> Vec<u8> {
+pub fn own_sheet(journal: &[u8]) -> Vec<u8> {
     let mut out = vec![0; sheet::Sheet::MOST_BYTES];
     let end = sheet::write(journal, &mut out).expect("the journal is good and the room enough");
     out.truncate(end);
@@ -80,7 +80,7 @@ fn is_block(price: u32, size: u32) -> bool {
     let mut desk = Desk::new(&header);
     let at = Moment { event: 0, time: MORNING };
     desk.quote(at, &Quote { exchange: 1, series: 0, prices: [0, price - 1], customers: [0, 0] });
-    let trade = HomeTrade { series: 0, price, size, block_form: 1, complex: false, initiated: false, delay: 0 };
+    let trade = HomeTrade { series: 0, price, size, block_form: 1, complex: false, initiator: None, delay: 0 };
     desk.judge_trade(MORNING, &trade).block
 }
 

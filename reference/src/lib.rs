@@ -2,6 +2,8 @@
 //! opinion for the proved code, and its peer in speed.
 
 pub mod ask;
+#[cfg(test)]
+mod cancellations;
 pub mod claims;
 pub mod day;
 pub mod event;

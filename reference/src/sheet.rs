@@ -13,7 +13,7 @@ impl Sheet {
     pub const MOST_BYTES: usize = Satisfaction::MOST * Self::NUMBERS_A_LINE * Number::MOST_BYTES;
 }
 
-fn sum_of_claims(desk: &Desk, trade: &Trade) -> u32 {
+pub fn sum_of_claims(desk: &Desk, trade: &Trade) -> u32 {
     trade.lines().iter().map(|&line| desk.lines[line as usize].claim).sum()
 }
 

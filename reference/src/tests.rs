@@ -63,8 +63,33 @@ fn a_closing_record_alone_has_no_fields() {
 }
 
 #[test]
+fn a_cancellation_alone_names_any_number_and_any_exchange() {
+    let header = two_exchanges();
+    let of = |order, named| Record {
+        kind: kind::CANCELLATION,
+        fields: [order, named, 0, 0, 0, 0, 0, 0],
+        ..Record::default()
+    };
+    let mut out = [0xA5; 8];
+    for named in [1, 2] {
+        let cancellation = of(268_435_455, named);
+        assert_eq!(cancellation.write(&header, 0, &mut out), Ok(7));
+        assert_eq!(out, [8, 0, 0xFF, 0xFF, 0xFF, 0x7F, named as u8, 0xA5]);
+        assert_eq!(Record::read_alone(&header, 0, &out), Ok((7, cancellation)));
+    }
+    let refused = |no, place| Err(Refusal { no, place });
+    assert_eq!(Record::read_alone(&header, 0, &[8, 0, 0]), refused(No::UnreadableNumber, 3));
+    assert_eq!(Record::read_alone(&header, 0, &[8, 0, 0, 0]), refused(No::Field, 0));
+    assert_eq!(Record::read_alone(&header, 0, &[8, 0, 0, 3]), refused(No::Field, 0));
+    assert_eq!(Record::read_alone(&header, 86_399_999, &[8, 1, 0, 2]), refused(No::Field, 0));
+    for unfit in [of(268_435_456, 2), of(0, 0), of(0, 3), of(0, u32::MAX)] {
+        assert_eq!(unfit.write(&header, 0, &mut out), Err(Refusal::new(No::Field)));
+    }
+}
+
+#[test]
 fn unknown_kinds() {
-    for kind in [0, 8, 10, 11, 128] {
+    for kind in [0, 10, 11, 128] {
         let unknown = Record { kind, ..Record::default() };
         assert_eq!(unknown.write(&two_exchanges(), 0, &mut [0; 4]), Err(Refusal::new(No::UnknownKind)));
     }

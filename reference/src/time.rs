@@ -13,4 +13,8 @@ impl Time {
     /// "... or plus 60,000 if the report is at or after close less 300,000."
     pub const TO_CLAIM_NEAR_CLOSE: u32 = 60_000;
     pub const NEAR_CLOSE: u32 = 300_000;
+    /// "Up to and including 180,000 ms after receiving it ..."
+    pub const TO_CANCEL: u32 = 180_000;
+    /// "... or 60,000 if we received it at or after close less 300,000."
+    pub const TO_CANCEL_NEAR_CLOSE: u32 = 60_000;
 }

@@ -109,7 +109,7 @@ module _ (j : Journal) (tr cl : List ℕ) (trades n : ℕ) (b : Books j tr cl tr
             customer-contracts = l .contracts;
             sound =
                 λ x mem. known-line-sound (j .header) (j .history) x
-                (lines-known (b .arrived) x (unfold ofTrade in keep-sub _ (linesOf (j .header) (j .history)) x mem));
+                (lines-known (b .arrived) (j .history) x (unfold ofTrade in keep-sub _ (linesOf (j .header) (j .history) (j .history)) x mem));
             claim-words = g .claim-words;
             customer-words = g .customer-words;
           }

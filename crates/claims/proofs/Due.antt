@@ -33,7 +33,7 @@ module _ (cl tr : List ℕ) (m : ℕ) where
     unfolding tradeRow
     size-word = tv .rows m 1 hm (omega arith)
 
-    sum-word : getD cl ((640 + m) * 8 + 1) 0 ≡ sum (claimsOf (ofTrade m (linesOf h past)))
+    sum-word : getD cl ((640 + m) * 8 + 1) 0 ≡ sum (claimsOf (ofTrade m (linesOf h past past)))
     unfolding sumOf
     sum-word = held .sums m few
 
@@ -79,6 +79,7 @@ nothing-filed =
     record {
       eight = λ m h. omega (arith, none-of-trade m);
       earlier = λ m i h g. let z : ⊥ = omega (arith, none-of-trade m) in elim z [ ];
+      of-trades = λ i h. let z : ⊥ = omega arith in elim z [ ];
       small = λ m h. omega (arith, none-claimed m);
       few = omega arith;
       long = length-replicate {A = ℕ} 6144 0;

@@ -1,14 +1,16 @@
 -- What the tables of trades kept says the reason on a Satisfaction Order, its customer contracts and its claim.
 use mathlib.Core.Path.{_≡_, refl, sym, ap, _∙_}
+use mathlib.Core.Bool.{false}
 use mathlib.Core.List.{List}
 use Prim.Native.Nat.{ℕ, _+_, _-_, _*_, _<_, _≤_}
 use native.Mathlib.Omega.{arith}
 use lib.ListN.{getD}
+use Rattle.rules.specs.Basics.{any}
 use Rattle.rules.specs.Header.{Header}
 use Rattle.rules.specs.Record.{Event, satisfaction}
 use Rattle.rules.specs.Journal.{History, tradeAt, beforeTrade}
 use Rattle.rules.specs.Prices.{statusOf}
-use Rattle.rules.specs.Reasons.{caseOf, customers, reason}
+use Rattle.rules.specs.Reasons.{Case, caseOf, customers, namesInTime, reason}
 use Rattle.rules.specs.Due.{claim}
 use Rattle.trades.specs.Trades.{snap, snapAt, Traded}
 use Rattle.reasons.specs.Reasons.{reasonOf, claimOf}
@@ -19,15 +21,19 @@ status-word : (e : Event) (before : History) (y : ℕ) → getD (snapAt e before
 unfolding snap
 status-word e before y = refl
 
-module _ (h : Header) (past : History) (tr sn : List ℕ) (trades m y home : ℕ) (held : Traded h past tr sn trades) (hm : m < trades)
+-- the case of a Satisfaction Order for trade m
+abbrev caseAt : History → History → ℕ → Event → ℕ → Case
+caseAt day past n e m = record { number = n; claim = e; trade = tradeAt m past; before = beforeTrade m past; day = day }
+
+module _ (h : Header) (day past : History) (n : ℕ) (tr sn : List ℕ) (trades m y home : ℕ) (held : Traded h past tr sn trades) (hm : m < trades)
     (hy : y < h .exchanges) (eh : h .home ≡ home) (low : 1 ≤ home) (high : home ≤ h .exchanges)
     (e : Event) (et : (satisfaction e) .trade ≡ m) (es : (satisfaction e) .sender ≡ y + 1) where
-  pub case-is : caseOf past e ≡ record { claim = e; trade = tradeAt m past; before = beforeTrade m past }
+  case-is : caseOf day past n e ≡ caseAt day past n e m
   unfolding caseOf
   case-is = rw et
 
   pub facts-are : (close asked now : ℕ) → h .close ≡ close → (satisfaction e) .price ≡ asked → e .time ≡ now
-      → factsOf tr sn m y home close asked now ≡ factsIn h (record { claim = e; trade = tradeAt m past; before = beforeTrade m past }) y
+      → factsOf tr sn m y home close asked now ≡ factsIn h (caseAt day past n e m) y
   unfolding factsOf
   facts-are close asked now ec ea en =
       let home-status : getD sn ((m * 8 + (home - 1)) * 8 + 3) 0 ≡ statusOf (h .home) (beforeTrade m past) =
@@ -50,14 +56,15 @@ module _ (h : Header) (past : History) (tr sn : List ℕ) (trades m y home : ℕ
         ← en,
       )
 
-  pub reason-is : (close asked now : ℕ) → h .close ≡ close → (satisfaction e) .price ≡ asked → e .time ≡ now
-      → reasonOf (factsOf tr sn m y home close asked now) ≡ reason h (caseOf past e)
-  reason-is close asked now ec ea en = rw (facts-are close asked now ec ea en, case-is) (sym (reason-words h _ y es))
+  pub reason-is : any (namesInTime h n e) day ≡ false → (close asked now : ℕ) → h .close ≡ close → (satisfaction e) .price ≡ asked → e .time ≡ now
+      → reasonOf (factsOf tr sn m y home close asked now) ≡ reason h (caseOf day past n e)
+  reason-is stands close asked now ec ea en =
+      rw (facts-are close asked now ec ea en, case-is) (sym (reason-words h (caseAt day past n e m) y es stands))
 
-  pub customers-are : getD sn ((m * 8 + y) * 8 + 2) 0 ≡ customers (caseOf past e)
-  customers-are = rw (held .snaps m y 2 hm hy (omega arith), case-is) (sym (customers-words h (record { claim = e; trade = tradeAt m past; before = beforeTrade m past }) y es))
+  pub customers-are : getD sn ((m * 8 + y) * 8 + 2) 0 ≡ customers (caseOf day past n e)
+  customers-are = rw (held .snaps m y 2 hm hy (omega arith), case-is) (sym (customers-words h (caseAt day past n e m) y es))
 
-  pub claim-is : (why contracts size : ℕ) → why ≡ reason h (caseOf past e) → contracts ≡ customers (caseOf past e) → (satisfaction e) .size ≡ size
-      → claimOf why size contracts (getD tr (m * 8 + 1) 0) (getD tr (m * 8 + 7) 0) ≡ claim h (caseOf past e)
+  pub claim-is : (why contracts size : ℕ) → why ≡ reason h (caseOf day past n e) → contracts ≡ customers (caseOf day past n e) → (satisfaction e) .size ≡ size
+      → claimOf why size contracts (getD tr (m * 8 + 1) 0) (getD tr (m * 8 + 7) 0) ≡ claim h (caseOf day past n e)
   claim-is why contracts size ew eu ez =
       rw (ew, eu, ← customers-are, held .snaps m y 2 hm hy (omega arith), held .rows m 1 hm (omega arith), held .rows m 7 hm (omega arith), case-is) (sym (claim-words h _ y es size ez))

@@ -8,16 +8,18 @@ use lib.Dec.{eqb}
 use lib.ListN.{getD, length, set, length-set}
 use lib.Seq.{getD-set-same, getD-set-other}
 use borrow.Author.Tests.{eq-eqb, ne-eqb, eqb-true, eqb-false}
-use Rattle.rules.specs.Basics.{if_then_else_, _==_, keep, sum}
+use Rattle.rules.specs.Basics.{if_then_else_, _==_, any, keep, sum}
 use Rattle.rules.specs.Header.{Header}
-use Rattle.rules.specs.Record.{Event, field, satisfaction, isSatisfaction, satisfactionKind}
-use Rattle.rules.specs.Journal.{History, Happened, count, nth}
-use Rattle.rules.specs.Reasons.{caseOf, customers, reason}
+use Rattle.rules.specs.Record.{Event, field, satisfaction, isSatisfaction, satisfactionKind, namingKind}
+use Rattle.rules.specs.Journal.{History, Happened, count, nth, names}
+use Rattle.rules.specs.Reasons.{caseOf, customers, namesInTime, reason}
 use Rattle.rules.specs.Due.{leastOf, Line, lineOf, linesOf, ofTrade, claimsOf, claim}
 use Rattle.rules.proofs.Tests.{byTest, keep-more}
 use Rattle.rules.proofs.Below.{one-more-below, same-below}
 use Rattle.rules.proofs.Histories.{count-cons, count-skip, nth-skip, nth-older, nth-new}
+use Rattle.rules.proofs.Journals.{Arrived}
 use Rattle.rules.proofs.Lines.{limited-at-most}
+use Rattle.rules.proofs.Naming.{lines-kept, not-cancelled-in-time, none-cancelled-ahead}
 use Rattle.rows.specs.Rows.{Reads, word, Put, RecOk}
 use Rattle.rows.specs.declared.Rec.{Rec}
 use Rattle.orders.specs.Orders.{Headed, Heads}
@@ -25,7 +27,7 @@ use Rattle.trades.specs.Trades.{Traded}
 use Rattle.reasons.specs.declared.Facts.{Facts}
 use Rattle.reasons.specs.Reasons.{reasonOf, claimOf}
 use Rattle.claims.specs.Facts.{factsOf}
-use Rattle.claims.specs.Lines.{lineAt, linesFrom, numberAt, manyOf, sumOf, tradeLines, Told, Lined, Filing, Fileable, Filed, Placed, ClaimsStep}
+use Rattle.claims.specs.Lines.{lineAt, linesFrom, numberAt, manyOf, sumOf, tradeLines, Told, Lined, Filing, Fileable, Filed, Cancellable, Placed, ClaimsStep}
 use Rattle.claims.proofs.Facts.{reason-is, customers-are, claim-is}
 
 -- ---- one line more at the end
@@ -65,39 +67,41 @@ sum-more m (x ∷ ls) l =
     (λ p. rw p (sum-more m ls l))
 
 -- the sum of a trade's claims with this order's line, and with another trade's
-line-words : (h : Header) (past : History) (i : ℕ) (e : Event) (a s t : ℕ) → s ≡ t + claim h (caseOf past e) → eqb (field e 0) a ≡ true
-    → s ≡ (if (lineOf h past i e) .trade == a then t + (lineOf h past i e) .claim else t)
-unfolding lineOf
-line-words h past i e a s t p q = rw q p
+module _ (h : Header) (day past : History) (i : ℕ) (e : Event) (a : ℕ) where
+  line-words : (s t : ℕ) → s ≡ t + claim h (caseOf day past i e) → eqb (field e 0) a ≡ true
+      → s ≡ (if (lineOf h day past i e) .trade == a then t + (lineOf h day past i e) .claim else t)
+  unfolding lineOf
+  line-words s t p q = rw q p
 
-other-line : (h : Header) (past : History) (i : ℕ) (e : Event) (a s t : ℕ) → s ≡ t → eqb (field e 0) a ≡ false
-    → s ≡ (if (lineOf h past i e) .trade == a then t + (lineOf h past i e) .claim else t)
-unfolding lineOf
-other-line h past i e a s t p q = rw q p
+  other-line : (s t : ℕ) → s ≡ t → eqb (field e 0) a ≡ false
+      → s ≡ (if (lineOf h day past i e) .trade == a then t + (lineOf h day past i e) .claim else t)
+  unfolding lineOf
+  other-line s t p q = rw q p
 
-pub in-its-trade : (h : Header) (past : History) (i : ℕ) (e : Event) (a : ℕ) (ls s : List Line) → s ≡ ls ++ (lineOf h past i e ∷ []) → eqb (field e 0) a ≡ true
-    → s ≡ ls ++ (if (lineOf h past i e) .trade == a then lineOf h past i e ∷ [] else [])
-unfolding lineOf
-in-its-trade h past i e a ls s p q = rw q p
+  pub in-its-trade : (ls s : List Line) → s ≡ ls ++ (lineOf h day past i e ∷ []) → eqb (field e 0) a ≡ true
+      → s ≡ ls ++ (if (lineOf h day past i e) .trade == a then lineOf h day past i e ∷ [] else [])
+  unfolding lineOf
+  in-its-trade ls s p q = rw q p
 
-in-another : (h : Header) (past : History) (i : ℕ) (e : Event) (a : ℕ) (ls s : List Line) → s ≡ ls → eqb (field e 0) a ≡ false
-    → s ≡ ls ++ (if (lineOf h past i e) .trade == a then lineOf h past i e ∷ [] else [])
-unfolding lineOf
-in-another h past i e a ls s p q = rw q (p ∙ sym (append-nil ls))
+  in-another : (ls s : List Line) → s ≡ ls → eqb (field e 0) a ≡ false
+      → s ≡ ls ++ (if (lineOf h day past i e) .trade == a then lineOf h day past i e ∷ [] else [])
+  unfolding lineOf
+  in-another ls s p q = rw q (p ∙ sym (append-nil ls))
 
 same-trade : (a y m z : ℕ) → y < 8 → z < 8 → a * 8 + y ≡ m * 8 + z → a ≡ m
 same-trade a y m z hy hz e = omega arith
 
 -- ---- a record of another kind
 
-lines-skip : (h : Header) (e : Event) (past : History) → (e .kind ≡ satisfactionKind → ⊥) → linesOf h (e ∷ past) ≡ linesOf h past
+pub lines-skip : (h : Header) (e : Event) (past : History) → (e .kind ≡ satisfactionKind → ⊥) → linesOf h (e ∷ past) (e ∷ past) ≡ linesOf h (e ∷ past) past
 unfolding linesOf
-lines-skip h e past ne = rw (ne-eqb (e .kind) satisfactionKind ne) (append-nil (linesOf h past))
+lines-skip h e past ne = rw (ne-eqb (e .kind) satisfactionKind ne) (append-nil (linesOf h (e ∷ past) past))
 
-pub lines-alone : (h : Header) (past : History) (cl : List ℕ) (n : ℕ) (e : Event) → (e .kind ≡ satisfactionKind → ⊥)
-    → Lined h past cl n → Lined h (e ∷ past) cl n
-lines-alone h past cl n e ne held =
-    let same = sym (lines-skip h e past ne) in
+-- the table as it was, where the lines are
+pub lines-stay : (h : Header) (past : History) (cl : List ℕ) (n : ℕ) (e : Event) → (e .kind ≡ satisfactionKind → ⊥)
+    → linesOf h (e ∷ past) (e ∷ past) ≡ linesOf h past past → Lined h past cl n → Lined h (e ∷ past) cl n
+lines-stay h past cl n e ne all-same held =
+    let same = sym all-same in
     record {
       numbered = held .numbered ∙ sym (count-skip isSatisfaction e past (ne-eqb (e .kind) satisfactionKind ne));
       lines = held .lines ∙ same;
@@ -106,19 +110,27 @@ lines-alone h past cl n e ne held =
       told = λ i hi. rw (nth-skip isSatisfaction i e past (rw (ne-eqb (e .kind) satisfactionKind ne))) (held .told i hi);
     }
 
+lines-alone : (h : Header) (past : History) (cl : List ℕ) (n : ℕ) (e : Event) → (e .kind ≡ satisfactionKind → ⊥) → (e .kind ≡ namingKind → ⊥)
+    → Lined h past cl n → Lined h (e ∷ past) cl n
+lines-alone h past cl n e ns nn held =
+    lines-stay h past cl n e ns
+    (lines-skip h e past ns ∙ lines-kept h e past past (ne-eqb (e .kind) namingKind nn))
+    held
+
 -- ---- a Satisfaction Order
 
 pub lines-new : (h : Header) (e : Event) (past : History) → e .kind ≡ satisfactionKind
-    → linesOf h (e ∷ past) ≡ linesOf h past ++ (lineOf h past (count isSatisfaction past) e ∷ [])
+    → linesOf h (e ∷ past) (e ∷ past) ≡ linesOf h past past ++ (lineOf h (e ∷ past) past (count isSatisfaction past) e ∷ [])
 unfolding linesOf
-lines-new h e past k = rw (eq-eqb (e .kind) satisfactionKind k)
+lines-new h e past k =
+    rw (eq-eqb (e .kind) satisfactionKind k, lines-kept h e past past (ne-eqb (e .kind) namingKind (λ q. omega arith)))
 
-line-is : (u : List ℕ) (n why contracts due : ℕ) (r : Rec) (h : Header) (e : Event) (past : History) → Reads e r
+line-is : (u : List ℕ) (n why contracts due : ℕ) (r : Rec) (h : Header) (e : Event) (day past : History) → Reads e r
     → ((i : ℕ) → i < 8 → getD u (n * 8 + i) 0 ≡ getD (word r 0 ∷ word r 3 ∷ why ∷ contracts ∷ due ∷ word r 1 ∷ word r 2 ∷ r .time ∷ []) i 0)
-    → why ≡ reason h (caseOf past e) → contracts ≡ customers (caseOf past e) → due ≡ claim h (caseOf past e)
-    → lineAt u n ≡ lineOf h past n e
+    → why ≡ reason h (caseOf day past n e) → contracts ≡ customers (caseOf day past n e) → due ≡ claim h (caseOf day past n e)
+    → lineAt u n ≡ lineOf h day past n e
 unfolding lineOf
-line-is u n why contracts due r h e past rd here a b c =
+line-is u n why contracts due r h e day past rd here a b c =
     rw (
       here 0 (omega arith),
       here 1 (omega arith),
@@ -262,6 +274,12 @@ module _ (r : Rec) (home exchanges close : ℕ) (tr sn : List ℕ) (trades : ℕ
                 λ a ha. byTest (eqb a m) (λ q. rw (eqb-true a m q) (omega (arith, f .many-here, eighth-left)))
                 (λ q. omega (arith, f .many-other a (eqb-false a m q), fi .eight a ha));
             earlier = λ a i ha hi. byTest (eqb a m) (λ q. new a i ha hi (eqb-true a m q)) (λ q. other a i ha hi (eqb-false a m q));
+            of-trades =
+                λ i hi. byTest (eqb i n)
+                (λ q. rw (eqb-true i n q, f .here 0 (omega arith)) (omega (arith, trade-low, em .0)))
+                (λ q. let ne = eqb-false i n q in
+                let old : i < n = omega (arith, ne) in
+                rw (f .others i 0 (omega (arith, fi .few)) (omega arith) ne) (fi .of-trades i old));
             small =
                 λ a ha. byTest (eqb a m) (λ q. rw (eqb-true a m q) (omega (arith, f .sum-here, claim-small, fi .small m trade-low)))
                 (λ q. omega (arith, f .sum-other a (eqb-false a m q), fi .small a ha));
@@ -285,7 +303,7 @@ module _ (r : Rec) (home exchanges close : ℕ) (tr sn : List ℕ) (trades : ℕ
 
       -- ---- beside the history
 
-      module _ (h : Header) (sizes : List ℕ) (e : Event) (past : History) (is : Heads h exchanges home sizes) (ec : h .close ≡ close) (rd : Reads e r)
+      module _ (h : Header) (sizes : List ℕ) (e : Event) (past : History) (arrived : Arrived h past) (is : Heads h exchanges home sizes) (ec : h .close ≡ close) (rd : Reads e r)
           (tv : Traded h past tr sn trades) (held : Lined h past cl n) where
         sat : e .kind ≡ satisfactionKind
         sat = rd .kind ∙ kind
@@ -305,22 +323,30 @@ module _ (r : Rec) (home exchanges close : ℕ) (tr sn : List ℕ) (trades : ℕ
         home-in : home ≤ h .exchanges
         home-in = let z = is .exchanges in omega (arith, ok .to-n)
 
-        why-is : why ≡ reason h (caseOf past e)
+        stands : any (namesInTime h n e) (e ∷ past) ≡ false
+        unfolding any namesInTime names
+        stands =
+            rw (
+              ne-eqb (e .kind) namingKind (λ q. omega (arith, sat)),
+              not-cancelled-in-time h n e past (none-cancelled-ahead arrived n (omega (arith, held .numbered))),
+            )
+
+        why-is : why ≡ reason h (caseOf (e ∷ past) past n e)
         why-is =
             ew ∙ ap reasonOf ek
-            ∙ reason-is h past tr sn trades m (x - 1) home tv known sends (is .home) (ok .from-one) home-in e names-trade names-sender
+            ∙ reason-is h (e ∷ past) past n tr sn trades m (x - 1) home tv known sends (is .home) (ok .from-one) home-in e names-trade names-sender stands
             close (word r 2) (r .time) ec (sym (rd .fields 2)) (rd .time)
 
-        contracts-are : k .customers ≡ customers (caseOf past e)
+        contracts-are : k .customers ≡ customers (caseOf (e ∷ past) past n e)
         unfolding factsOf
         contracts-are =
             ap (λ (f : Facts). f .customers) ek
-            ∙ customers-are h past tr sn trades m (x - 1) home tv known sends (is .home) (ok .from-one) home-in e names-trade names-sender
+            ∙ customers-are h (e ∷ past) past n tr sn trades m (x - 1) home tv known sends (is .home) (ok .from-one) home-in e names-trade names-sender
 
-        due-is : due ≡ claim h (caseOf past e)
+        due-is : due ≡ claim h (caseOf (e ∷ past) past n e)
         due-is =
             ed
-            ∙ claim-is h past tr sn trades m (x - 1) home tv known sends (is .home) (ok .from-one) home-in e names-trade names-sender
+            ∙ claim-is h (e ∷ past) past n tr sn trades m (x - 1) home tv known sends (is .home) (ok .from-one) home-in e names-trade names-sender
             why (k .customers) (word r 3) why-is contracts-are (sym (rd .fields 3))
 
         newest-told : Told cl2 n (record { event = e; before = past })
@@ -340,17 +366,17 @@ module _ (r : Rec) (home exchanges close : ℕ) (tr sn : List ℕ) (trades : ℕ
             let old : i < n = omega (arith, ne) in
             rw (nth-older isSatisfaction i e past (omega (arith, held .numbered))) (told-kept i old (held .told i old)))
 
-        newest-line : lineAt cl2 n ≡ lineOf h past n e
-        newest-line = line-is cl2 n why (k .customers) due r h e past rd (f .here) why-is contracts-are due-is
+        newest-line : lineAt cl2 n ≡ lineOf h (e ∷ past) past n e
+        newest-line = line-is cl2 n why (k .customers) due r h e (e ∷ past) past rd (f .here) why-is contracts-are due-is
 
-        all-lines : linesOf h (e ∷ past) ≡ linesOf h past ++ (lineOf h past n e ∷ [])
+        all-lines : linesOf h (e ∷ past) (e ∷ past) ≡ linesOf h past past ++ (lineOf h (e ∷ past) past n e ∷ [])
         all-lines =
-            lines-new h e past sat ∙ ap (λ (i : ℕ). linesOf h past ++ (lineOf h past i e ∷ [])) (sym (held .numbered))
+            lines-new h e past sat ∙ ap (λ (i : ℕ). linesOf h past past ++ (lineOf h (e ∷ past) past i e ∷ [])) (sym (held .numbered))
 
-        lines-after : linesFrom cl2 (n + 1) ≡ linesOf h (e ∷ past)
+        lines-after : linesFrom cl2 (n + 1) ≡ linesOf h (e ∷ past) (e ∷ past)
         lines-after = lines-more cl2 n ∙ rw (lines-same cl cl2 n line-kept, held .lines, newest-line) (sym all-lines)
 
-        old-lines : (a : ℕ) → a < 128 → tradeLines cl2 a (manyOf cl a) ≡ ofTrade a (linesOf h past)
+        old-lines : (a : ℕ) → a < 128 → tradeLines cl2 a (manyOf cl a) ≡ ofTrade a (linesOf h past past)
         old-lines a ha =
             trade-lines-same cl cl2 a (manyOf cl a)
             (λ i hi. let same : numberAt cl2 a i ≡ numberAt cl a i =
@@ -358,26 +384,26 @@ module _ (r : Rec) (home exchanges close : ℕ) (tr sn : List ℕ) (trades : ℕ
             ap (lineAt cl2) same ∙ line-kept (numberAt cl a i) (fi .earlier a i ha hi))
             ∙ held .by-trade a ha
 
-        by-trade-after : (a : ℕ) → a < 128 → tradeLines cl2 a (manyOf cl2 a) ≡ ofTrade a (linesOf h (e ∷ past))
+        by-trade-after : (a : ℕ) → a < 128 → tradeLines cl2 a (manyOf cl2 a) ≡ ofTrade a (linesOf h (e ∷ past) (e ∷ past))
         by-trade-after a ha =
-            rw (all-lines, of-trade-more a (linesOf h past) (lineOf h past n e))
+            rw (all-lines, of-trade-more a (linesOf h past past) (lineOf h (e ∷ past) past n e))
             (byTest (eqb (field e 0) a)
             (λ q. let z : a ≡ m = sym (eqb-true (field e 0) a q) ∙ names-trade in
-            in-its-trade h past n e a (ofTrade a (linesOf h past)) (tradeLines cl2 a (manyOf cl2 a)) (rw z (its-lines z)) q)
+            in-its-trade h (e ∷ past) past n e a (ofTrade a (linesOf h past past)) (tradeLines cl2 a (manyOf cl2 a)) (rw z (its-lines z)) q)
             (λ q. let ne : a ≡ m → ⊥ = λ z. eqb-false (field e 0) a q (names-trade ∙ sym z) in
-            in-another h past n e a (ofTrade a (linesOf h past)) (tradeLines cl2 a (manyOf cl2 a)) (rw (f .many-other a ne) (old-lines a ha)) q))
+            in-another h (e ∷ past) past n e a (ofTrade a (linesOf h past past)) (tradeLines cl2 a (manyOf cl2 a)) (rw (f .many-other a ne) (old-lines a ha)) q))
           where
-            its-lines : a ≡ m → tradeLines cl2 m (manyOf cl2 m) ≡ ofTrade m (linesOf h past) ++ (lineOf h past n e ∷ [])
+            its-lines : a ≡ m → tradeLines cl2 m (manyOf cl2 m) ≡ ofTrade m (linesOf h past past) ++ (lineOf h (e ∷ past) past n e ∷ [])
             its-lines z =
                 rw (f .many-here) (trade-lines-more cl2 m (manyOf cl m) ∙ rw (old-lines m trade-low, f .number-here, newest-line))
 
-        sums-after : (a : ℕ) → a < 128 → sumOf cl2 a ≡ sum (claimsOf (ofTrade a (linesOf h (e ∷ past))))
+        sums-after : (a : ℕ) → a < 128 → sumOf cl2 a ≡ sum (claimsOf (ofTrade a (linesOf h (e ∷ past) (e ∷ past))))
         sums-after a ha =
-            rw (all-lines, sum-more a (linesOf h past) (lineOf h past n e))
+            rw (all-lines, sum-more a (linesOf h past past) (lineOf h (e ∷ past) past n e))
             (byTest (eqb (field e 0) a)
             (λ q. let z : a ≡ m = sym (eqb-true (field e 0) a q) ∙ names-trade in
-            line-words h past n e a _ _ (rw z (f .sum-here ∙ rw (held .sums m trade-low, due-is))) q)
-            (λ q. other-line h past n e a _ _ (f .sum-other a (λ z. eqb-false (field e 0) a q (names-trade ∙ sym z)) ∙ held .sums a ha) q))
+            line-words h (e ∷ past) past n e a _ _ (rw z (f .sum-here ∙ rw (held .sums m trade-low, due-is))) q)
+            (λ q. other-line h (e ∷ past) past n e a _ _ (f .sum-other a (λ z. eqb-false (field e 0) a q (names-trade ∙ sym z)) ∙ held .sums a ha) q))
 
         lined-after : Lined h (e ∷ past) cl2 (n + 1)
         lined-after =
@@ -393,18 +419,19 @@ module _ (r : Rec) (home exchanges close : ℕ) (tr sn : List ℕ) (trades : ℕ
       order-taken = record { filing = filing-after; so = lined-after }
 
 pub no-order : (r : Rec) (home exchanges close : ℕ) (tr sn : List ℕ) (trades : ℕ) (cl : List ℕ) (n : ℕ) → Filing cl n
-    → (r .kind ≡ satisfactionKind → ⊥) → ClaimsStep r home exchanges close tr sn trades cl n cl n
-no-order r home exchanges close tr sn trades cl n fi ne =
+    → (r .kind ≡ satisfactionKind → ⊥) → (r .kind ≡ namingKind → ⊥) → ClaimsStep r home exchanges close tr sn trades cl n cl n
+no-order r home exchanges close tr sn trades cl n fi ns nn =
     record {
       filing = fi;
-      so = λ h sizes e past is ec rd tv held. lines-alone h past cl n e (λ z. ne (sym (rd .kind) ∙ z)) held;
+      so = λ h sizes e past arrived is ec rd tv held. lines-alone h past cl n e (λ z. ns (sym (rd .kind) ∙ z)) (λ z. nn (sym (rd .kind) ∙ z)) held;
     }
 
 -- a record that the reader has passed, and 7 and 8
 pub record-placed : (exchanges home : ℕ) (r : Rec) (cl : List ℕ) (trades n : ℕ) → RecOk exchanges home r
     → (r .kind ≡ satisfactionKind → word r 0 < trades) → (r .kind ≡ satisfactionKind → manyOf cl (word r 0) < 8)
-    → (r .kind ≡ satisfactionKind → n < 512) → Placed r cl trades exchanges n
-record-placed exchanges home r cl trades n ok known eighth room =
+    → (r .kind ≡ satisfactionKind → n < 512) → (r .kind ≡ namingKind → word r 0 < n) → (r .kind ≡ namingKind → Cancellable cl (word r 0))
+    → Placed r cl trades exchanges n
+record-placed exchanges home r cl trades n ok known eighth room order cancellable =
     record {
       fields = λ k. let g = ok .satisfaction k in
           record {
@@ -422,6 +449,8 @@ record-placed exchanges home r cl trades n ok known eighth room =
       trade = known;
       first = eighth;
       room = room;
+      order = order;
+      cancellable = cancellable;
     }
 
 pub ruleset line-laws = (line-filed, trade-known, trade-word-known, sender-from-one, sender-known, order-taken, no-order)

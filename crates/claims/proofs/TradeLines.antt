@@ -76,9 +76,9 @@ trade-lines-long cl m k = as-many-below (λ i. lineAt cl (numberAt cl m i)) k
 
 -- what was gathered, of a history
 pub record LinesGathered (h : Header) (past : History) (m : ℕ) (claim customers : List ℕ) (k : ℕ) : Type 0 where
-  pub many : k ≡ length (ofTrade m (linesOf h past))
-  pub claims : take k claim ≡ claimsOf (ofTrade m (linesOf h past))
-  pub contracts : take k customers ≡ customersOf (ofTrade m (linesOf h past))
+  pub many : k ≡ length (ofTrade m (linesOf h past past))
+  pub claims : take k claim ≡ claimsOf (ofTrade m (linesOf h past past))
+  pub contracts : take k customers ≡ customersOf (ofTrade m (linesOf h past past))
 
 pub gathered-lines : (h : Header) (past : History) (cl : List ℕ) (n m : ℕ) (claim customers : List ℕ) (k : ℕ) → m < 128 → Lined h past cl n
     → Gathered cl m claim customers k → LinesGathered h past m claim customers k
@@ -93,12 +93,12 @@ gathered-lines h past cl n m claim customers k hm held g =
 pub eighth-left : {h : Header} {past : History} {e : Event} (cl : List ℕ) (n m : ℕ) → Lined h past cl n → Arrived h (e ∷ past) → h .exchanges ≤ 8
     → e .kind ≡ satisfactionKind → field e 0 ≡ m → m < 128 → manyOf cl m < 8
 eighth-left {h} {past} {e} cl n m held v few k names hm =
-    let l : Line = lineOf h past (count isSatisfaction past) e in
-    let all = trade-has-at-most-a-line-for-each-exchange v m in
-    let many : manyOf cl m ≡ length (ofTrade m (linesOf h past)) = sym (trade-lines-long cl m (manyOf cl m)) ∙ ap length (held .by-trade m hm) in
-    let with-it : ofTrade m (linesOf h (e ∷ past)) ≡ ofTrade m (linesOf h past) ++ (l ∷ []) =
-    ap (ofTrade m) (lines-new h e past k) ∙ of-trade-more m (linesOf h past) l
-    ∙ sym (in-its-trade h past (count isSatisfaction past) e m (ofTrade m (linesOf h past)) (ofTrade m (linesOf h past) ++ (l ∷ [])) refl (eq-eqb (field e 0) m names)) in
-    let one-more : length (ofTrade m (linesOf h (e ∷ past))) ≡ length (ofTrade m (linesOf h past)) + 1 =
-    ap length with-it ∙ length-append (ofTrade m (linesOf h past)) (l ∷ []) in
+    let l : Line = lineOf h (e ∷ past) past (count isSatisfaction past) e in
+    let all = trade-has-at-most-a-line-for-each-exchange v (e ∷ past) m in
+    let many : manyOf cl m ≡ length (ofTrade m (linesOf h past past)) = sym (trade-lines-long cl m (manyOf cl m)) ∙ ap length (held .by-trade m hm) in
+    let with-it : ofTrade m (linesOf h (e ∷ past) (e ∷ past)) ≡ ofTrade m (linesOf h past past) ++ (l ∷ []) =
+    ap (ofTrade m) (lines-new h e past k) ∙ of-trade-more m (linesOf h past past) l
+    ∙ sym (in-its-trade h (e ∷ past) past (count isSatisfaction past) e m (ofTrade m (linesOf h past past)) (ofTrade m (linesOf h past past) ++ (l ∷ [])) refl (eq-eqb (field e 0) m names)) in
+    let one-more : length (ofTrade m (linesOf h (e ∷ past) (e ∷ past))) ≡ length (ofTrade m (linesOf h past past)) + 1 =
+    ap length with-it ∙ length-append (ofTrade m (linesOf h past past)) (l ∷ []) in
     omega arith

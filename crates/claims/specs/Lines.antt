@@ -1,20 +1,23 @@
 -- The table of Satisfaction Orders: a row of eight words for each (trade, size, reason, customer contracts, claim), and behind them
 -- for each trade the numbers of its lines in their order, how many they are, and the sum of their claims. The row's last three words
--- (sender, its own price, when it came) are what a clerk is told beside them: no verdict looks at them.
+-- are the order's sender, its own price and when it came: a clerk is told them, and a record that cancels the order is judged by the last.
 use mathlib.Core.Path.{_≡_}
 use mathlib.Core.List.{List, _∷_, map}
-use Prim.Native.Nat.{ℕ, _+_, _*_, _<_, _≤_}
-use lib.ListN.{getD, length, take}
-use Rattle.rules.specs.Basics.{below, sum}
+use Prim.Native.Nat.{ℕ, _+_, _-_, _*_, _<_, _≤_}
+use lib.ListN.{getD, length, set, take}
+use Rattle.rules.specs.Basics.{if_then_else_, below, sum}
 use Rattle.rules.specs.Limits.{mostTrades, mostSatisfactionOrders, mostContracts}
 use Rattle.rules.specs.Header.{Header}
-use Rattle.rules.specs.Record.{Event, satisfaction, isSatisfaction, satisfactionKind}
+use Rattle.rules.specs.Record.{Event, satisfaction, isSatisfaction, satisfactionKind, namingKind}
 use Rattle.rules.specs.Journal.{History, Happened, count, nth}
 use Rattle.rules.specs.Due.{Line, linesOf, ofTrade, claimsOf, customersOf, due}
+use Rattle.rules.proofs.Journals.{Arrived}
+use Rattle.rules.proofs.Naming.{named}
 use Rattle.rows.specs.Rows.{Reads, word, SatisfactionOk}
 use Rattle.rows.specs.declared.Rec.{Rec}
 use Rattle.orders.specs.Orders.{Heads}
 use Rattle.trades.specs.Trades.{Traded}
+use Rattle.reasons.specs.Reasons.{inTime}
 
 abbrev pub lineAt : List ℕ → ℕ → Line
 lineAt cl k =
@@ -58,9 +61,9 @@ pub record Told (cl : List ℕ) (i : ℕ) (order : Happened) : Type 0 where
 
 pub record Lined (h : Header) (past : History) (cl : List ℕ) (n : ℕ) : Type 0 where
   pub numbered : n ≡ count isSatisfaction past
-  pub lines : linesFrom cl n ≡ linesOf h past
-  pub by-trade : (m : ℕ) → m < mostTrades → tradeLines cl m (manyOf cl m) ≡ ofTrade m (linesOf h past)
-  pub sums : (m : ℕ) → m < mostTrades → sumOf cl m ≡ sum (claimsOf (ofTrade m (linesOf h past)))
+  pub lines : linesFrom cl n ≡ linesOf h past past
+  pub by-trade : (m : ℕ) → m < mostTrades → tradeLines cl m (manyOf cl m) ≡ ofTrade m (linesOf h past past)
+  pub sums : (m : ℕ) → m < mostTrades → sumOf cl m ≡ sum (claimsOf (ofTrade m (linesOf h past past)))
   pub told : (i : ℕ) → i < n → Told cl i (nth isSatisfaction i past)
 
 -- ---- what holds of the table alone
@@ -68,6 +71,7 @@ pub record Lined (h : Header) (past : History) (cl : List ℕ) (n : ℕ) : Type 
 pub record Filing (cl : List ℕ) (n : ℕ) : Type 0 where
   pub eight : (m : ℕ) → m < mostTrades → manyOf cl m ≤ 8
   pub earlier : (m i : ℕ) → m < mostTrades → i < manyOf cl m → numberAt cl m i < n
+  pub of-trades : (i : ℕ) → i < n → getD cl (i * 8 + 0) 0 < mostTrades
   pub small : (m : ℕ) → m < mostTrades → sumOf cl m ≤ n * mostContracts
   pub few : n ≤ mostSatisfactionOrders
   pub long : length cl ≡ 6144
@@ -93,19 +97,41 @@ pub record Filed (cl cl2 row : List ℕ) (n m : ℕ) : Type 0 where
   pub sum-other : (a : ℕ) → (a ≡ m → ⊥) → sumOf cl2 a ≡ sumOf cl a
   pub same-length : length cl2 ≡ length cl
 
+-- ---- an order is cancelled
+
+-- line k can be cancelled: it stands in the table, and the sum of its trade's claims has its own
+pub record Cancellable (cl : List ℕ) (k : ℕ) : Type 0 where
+  pub line : k < mostSatisfactionOrders
+  pub trade : getD cl (k * 8 + 0) 0 < mostTrades
+  pub claimed : getD cl (k * 8 + 4) 0 ≤ sumOf cl (getD cl (k * 8 + 0) 0)
+  pub long : length cl ≡ 6144
+
+-- the table without the claim of line k, in its row and in its trade's sum, and with the reason that gives way to 14
+unfoldable pub clearedIn : List ℕ → ℕ → List ℕ
+clearedIn cl k =
+    let claims : ℕ = (640 + getD cl (k * 8 + 0) 0) * 8 + 1 in
+    set (set (set cl claims (getD cl claims 0 - getD cl (k * 8 + 4) 0)) (k * 8 + 2) (named (getD cl (k * 8 + 2) 0))) (k * 8 + 4) 0
+
+-- the table after line k was cancelled at the time `now`
+unfoldable pub cancelledIn : List ℕ → ℕ → ℕ → ℕ → List ℕ
+cancelledIn cl k close now = if inTime (getD cl (k * 8 + 7) 0) close now then clearedIn cl k else cl
+
 -- ---- contracts
 
--- a record that has its place in the table, if it is a Satisfaction Order: its trade is known, and has fewer than eight lines yet
+-- a record that has its place in the table: if it is a Satisfaction Order its trade is known, and has fewer than eight lines yet; if it
+-- cancels one, that one is known
 pub record Placed (r : Rec) (cl : List ℕ) (trades exchanges n : ℕ) : Type 0 where
   pub fields : r .kind ≡ satisfactionKind → SatisfactionOk exchanges 0 r
   pub trade : r .kind ≡ satisfactionKind → word r 0 < trades
   pub first : r .kind ≡ satisfactionKind → manyOf cl (word r 0) < 8
   pub room : r .kind ≡ satisfactionKind → n < mostSatisfactionOrders
+  pub order : r .kind ≡ namingKind → word r 0 < n
+  pub cancellable : r .kind ≡ namingKind → Cancellable cl (word r 0)
 
 -- a record of any kind
 pub record ClaimsStep (r : Rec) (home exchanges close : ℕ) (tr sn : List ℕ) (trades : ℕ) (cl : List ℕ) (n : ℕ) (cl2 : List ℕ) (n2 : ℕ) : Type 0 where
   pub filing : Filing cl2 n2
-  pub so : (h : Header) (sizes : List ℕ) (e : Event) (past : History) → Heads h exchanges home sizes → h .close ≡ close → Reads e r
+  pub so : (h : Header) (sizes : List ℕ) (e : Event) (past : History) → Arrived h past → Heads h exchanges home sizes → h .close ≡ close → Reads e r
       → Traded h past tr sn trades → Lined h past cl n → Lined h (e ∷ past) cl2 n2
 
 -- ---- the lines of one trade

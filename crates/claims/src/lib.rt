@@ -1,10 +1,11 @@
 // The table of Satisfaction Orders: each filed with its reason and its claim under its trade, and what is due to a trade.
 ghost use mathlib.Core.Path.{_≡_};
-ghost use Prim.Native.Nat.{_<_, _≤_};
+ghost use Prim.Native.Nat.{_+_, _<_, _≤_};
 ghost use lib.ListN.{length};
+ghost use Rattle.rules.specs.Record.{satisfactionKind};
 ghost use Rattle.orders.specs.Orders.{Headed};
 ghost use Rattle.claims.specs.Facts.{factsOf};
-ghost use Rattle.claims.specs.Lines.{manyOf, Filing, Fileable, Filed, Placed, ClaimsStep, Findable, ManyIs, NumberIs, Gathered, DueIs};
+ghost use Rattle.claims.specs.Lines.{manyOf, Filing, Fileable, Filed, Cancellable, cancelledIn, Placed, ClaimsStep, Findable, ManyIs, NumberIs, Gathered, DueIs};
 use numbered::SatisfactionOrder;
 use numbered::Trade;
 use reasons::Facts;
@@ -28,11 +29,12 @@ impl Line {
 
     pub const CLAIM: usize = 4;
 
-    // For a clerk, and no verdict looks at them: the order's sender, its own price, and when it came.
+    // For a clerk, and no verdict looks at them: the order's sender and its own price.
     pub const SENDER: usize = 5;
 
     pub const ASKED: usize = 6;
 
+    // When it came.
     pub const TIME: usize = 7;
 
     // Where the trades' rows of numbers begin, and those of sums.
@@ -92,7 +94,54 @@ fn file_line(cl: &mut [u32; 6144], n: usize, m: usize, row: [u32; 8])
     );
 }
 
-// One record of any kind; only a Satisfaction Order changes anything here, judged as it comes by what its trade kept.
+// "A cancellation in time makes reason 14 .. with claim 0; a late one cancels and changes nothing." A line with a reason judged before 14
+// has no claim to lose.
+fn cancel_line(lines: &mut [u32; 6144], n: usize, close: u32, time: u32)
+    requires { ⌜ Cancellable (now lines) n ⌝ }
+    ensures { λ _. ⌜ now (lines .exit) ≡ cancelledIn (now (lines .entry)) n close time ⌝ }
+{
+    let at = n * 8;
+    if !reasons::in_time(lines[at + Line::TIME], close, time) {
+        return;
+    }
+    let sum = (Line::SUMS + rows::index(lines[at + Line::TRADE])) * 8 + 1;
+    let left = lines[sum] - lines[at + Line::CLAIM];
+    let why = reasons::named(lines[at + Line::REASON]);
+    lines[sum] = left;
+    lines[at + Line::REASON] = why;
+    lines[at + Line::CLAIM] = 0;
+}
+
+// A Satisfaction Order, numbered n, judged as it comes by what its trade kept.
+fn keep_order(
+    lines: &mut [u32; 6144],
+    kept: &[u32; 1024],
+    snaps: &[u32; 8192],
+    n: usize,
+    trades: usize,
+    seat: Seat,
+    r: Rec,
+)
+    requires { ⌜ (trades ≤ 128) × (r .kind ≡ satisfactionKind) ⌝ }
+    requires { ⌜ Headed (seat .exchanges) (seat .home) ⌝ }
+    requires { ⌜ Placed r (now lines) trades (seat .exchanges) n ⌝ }
+    requires { ⌜ Filing (now lines) n ⌝ }
+    ensures { λ _. ⌜ ClaimsStep r (seat .home) (seat .exchanges) (seat .close) (now (kept .entry)) (now (snaps .entry)) trades (now (lines .entry)) n (now (lines .exit)) (n + 1) ⌝ }
+{
+    let row = r.row;
+    let m = rows::index(row[0]);
+    let y = rows::index(row[1]) - 1;
+    let time = r.time;
+    let k = facts_at(kept, snaps, m, y, seat.home, seat.close, row[2], time);
+    let customers = k.customers;
+    let why = reasons::reason_of(k);
+    let traded = kept[m * 8 + Kept::SIZE];
+    let claim = reasons::claim_of(why, row[3], customers, traded, kept[m * 8 + Kept::CLOSING]);
+    let line = [row[0], row[3], why, customers, claim, row[1], row[2], time];
+    file_line(lines, n, m, line);
+}
+
+// One record of any kind; only a Satisfaction Order and a record that cancels one change anything here.
 pub fn keep_claim(
     cl: &mut [u32; 6144],
     tr: &[u32; 1024],
@@ -108,21 +157,16 @@ pub fn keep_claim(
     requires { ⌜ Filing (now cl) n ⌝ }
     ensures { λ k. ⌜ ClaimsStep r (seat .home) (seat .exchanges) (seat .close) (now (tr .entry)) (now (sn .entry)) trades (now (cl .entry)) n (now (cl .exit)) k ⌝ }
 {
-    if r.kind != Rec::SATISFACTION {
+    let kind = r.kind;
+    if kind == Rec::SATISFACTION {
+        keep_order(cl, tr, sn, n, trades, seat, r);
+        return n + 1;
+    }
+    if kind == Rec::NAMING {
+        cancel_line(cl, rows::index(r.row[0]), seat.close, r.time);
         return n;
     }
-    let row = r.row;
-    let m = rows::index(row[0]);
-    let y = rows::index(row[1]) - 1;
-    let time = r.time;
-    let k = facts_at(tr, sn, m, y, seat.home, seat.close, row[2], time);
-    let customers = k.customers;
-    let why = reasons::reason_of(k);
-    let traded = tr[m * 8 + Kept::SIZE];
-    let claim = reasons::claim_of(why, row[3], customers, traded, tr[m * 8 + Kept::CLOSING]);
-    let line = [row[0], row[3], why, customers, claim, row[1], row[2], time];
-    file_line(cl, n, m, line);
-    n + 1
+    n
 }
 
 // How many lines trade m has.

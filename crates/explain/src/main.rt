@@ -5,6 +5,7 @@ ghost use Prim.Native.Nat.{_≤_, _<_};
 ghost use Rattle.rules.specs.Limits.{mostTrades, mostSatisfactionOrders};
 ghost use Rattle.claims.specs.Lines.{Filing};
 use beside::Sheet;
+use cancelled::Cancelled;
 use feed::Input;
 use feed::Room;
 use journal::Rewritten;
@@ -15,6 +16,7 @@ use said::Checked;
 use survey::Surveyed;
 
 mod beside;
+mod cancelled;
 mod order;
 mod words;
 
@@ -24,13 +26,14 @@ fn told_order(
     kept: &[u32; 1024],
     snaps: &[u32; 8192],
     said: &[u32; 1536],
+    cancelled: &[u32; 512],
     i: usize,
     close: u32,
     sheet: Sheet,
 ) -> bool
     requires { ⌜ i < mostSatisfactionOrders ⌝ }
 {
-    let order = order::order_at(lines, i);
+    let order = order::order_at(lines, cancelled, i);
     let m = rows::index(order.trade);
     if Trade::MOST <= m {
         return false;
@@ -49,6 +52,7 @@ fn tell_orders(
     kept: &[u32; 1024],
     snaps: &[u32; 8192],
     said: &[u32; 1536],
+    cancelled: &[u32; 512],
     n: usize,
     close: u32,
     sheet: Sheet,
@@ -57,7 +61,7 @@ fn tell_orders(
 {
     let mut i: usize = 0;
     while i < n {
-        if !told_order(lines, kept, snaps, said, i, close, sheet) {
+        if !told_order(lines, kept, snaps, said, cancelled, i, close, sheet) {
             return false;
         }
         i += 1;
@@ -92,6 +96,7 @@ fn tell(
     kept: &[u32; 1024],
     snaps: &[u32; 8192],
     said: &[u32; 1536],
+    cancelled: &[u32; 512],
     trades: usize,
     n: usize,
     close: u32,
@@ -103,7 +108,7 @@ fn tell(
     if n == 0 {
         words::say(b"no Satisfaction Order\n");
     }
-    if !tell_orders(lines, kept, snaps, said, n, close, sheet) {
+    if !tell_orders(lines, kept, snaps, said, cancelled, n, close, sheet) {
         return false;
     }
     beside::tell_extra(sheet, n);
@@ -135,7 +140,10 @@ fn explain(journal: &[u8], sheet: &[u8], own: bool, no: u32, at: usize) {
     };
     let front = header::read_header(journal);
     let head = front.head;
-    if !tell(&lines, &kept, &snaps, &said, trades, n, head.close, told) {
+    let mut times = [Cancelled::NEVER; 512];
+    cancelled::read(journal, front.used, head, &mut times);
+    let close = head.close;
+    if !tell(&lines, &kept, &snaps, &said, &times, trades, n, close, told) {
         os::fail(b"standard output");
     }
 }

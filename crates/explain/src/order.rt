@@ -2,11 +2,13 @@
 ghost use Prim.Native.Nat.{_<_, _≤_};
 ghost use Rattle.rules.specs.Limits.{mostTrades, mostSatisfactionOrders};
 ghost use Rattle.rules.specs.Reasons.{threeMinutes};
+use crate::cancelled::Cancelled;
 use crate::words;
 use claims::Line;
 use limits::Exchanges;
 use prices::Side;
 use reasons::Claim;
+use reasons::Naming;
 use reasons::Receipt;
 use trades::Kept;
 use trades::Snap;
@@ -21,9 +23,11 @@ pub struct Order {
     pub sender: u32,
     pub asked: u32,
     pub time: u32,
+    // `Cancelled::NEVER` where nothing cancels it.
+    pub cancelled: u32,
 }
 
-pub fn order_at(lines: &[u32; 6144], i: usize) -> Order
+pub fn order_at(lines: &[u32; 6144], cancelled: &[u32; 512], i: usize) -> Order
     requires { ⌜ i < mostSatisfactionOrders ⌝ }
 {
     Order {
@@ -36,6 +40,7 @@ pub fn order_at(lines: &[u32; 6144], i: usize) -> Order
         sender: lines[i * 8 + Line::SENDER],
         asked: lines[i * 8 + Line::ASKED],
         time: lines[i * 8 + Line::TIME],
+        cancelled: cancelled[i],
     }
 }
 
@@ -181,6 +186,54 @@ fn say_time(time: u32, traded: Traded, close: u32) {
     say_allowed(allowed, traded.initiator);
 }
 
+// A record that cancels an order stands after it, and so is no earlier.
+fn since(received: u32, cancelled: u32) -> u32 {
+    if cancelled < received {
+        return 0;
+    }
+    cancelled - received
+}
+
+fn say_minutes(minutes: u64) {
+    if minutes == Receipt::ONE_MINUTE {
+        words::say(b"one minute for an order received five minutes before the close or later");
+    } else {
+        words::say(b"three minutes");
+    }
+}
+
+// "A cancellation in time makes reason 14, judged after 9 and before 11 ..; a late one cancels and changes nothing."
+fn say_outcome(in_time: bool, reason: u32) {
+    if !in_time {
+        words::say(b": late, and changes nothing\n");
+        return;
+    }
+    words::say(b": in time");
+    if reason != Naming::REASON {
+        words::told(b", but reason ", reason);
+        words::say(b" is judged before it and stands");
+    }
+    words::say(b"\n");
+}
+
+// 14: when home cancelled the order and whom it named, and the limit that applies to that. Nobody but the initiator can be named.
+fn say_cancelled(order: Order, initiator: u32, close: u32) {
+    if order.cancelled == Cancelled::NEVER {
+        return;
+    }
+    words::say(b"  cancelled at ");
+    words::clock(rows::wide(order.cancelled));
+    words::told(b" and exchange ", initiator);
+    words::say(b" named, ");
+    words::clock(rows::wide(since(order.time, order.cancelled)));
+    words::say(b" after it was received; the limit is ");
+    say_minutes(reasons::minutes_from(order.time, close));
+    say_outcome(
+        reasons::in_time(order.time, close, order.cancelled),
+        order.reason,
+    );
+}
+
 fn say_required(block: u32, side: u32) {
     if block == 1 {
         words::say(b" cents, the price of the block\n");
@@ -243,7 +296,8 @@ pub fn tell(order: Order, kept: &[u32; 1024], snaps: &[u32; 8192], m: usize, clo
     say_trade(traded);
     say_through(there, order.customers);
     say_time(order.time, traded, close);
+    say_cancelled(order, traded.initiator, close);
     say_price(order.asked, traded, there);
-    words::reason(order.reason, there.excuser);
+    words::reason(order.reason, there.excuser, traded.initiator);
     say_claim(order, traded.size);
 }

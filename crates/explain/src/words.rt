@@ -1,5 +1,6 @@
 // The words, and the rule behind each reason: paragraphs of source document 000; what the paper marks *desk* is said to be the desk's reading.
 use libc::STDOUT_FILENO;
+use reasons::Naming;
 
 pub fn say(text: &[u8]) -> bool {
     io::write_all(STDOUT_FILENO, text)
@@ -74,6 +75,16 @@ fn say_exception(why: u32, excuser: u32) -> bool {
     }
 }
 
+// The third sentence of 6.94(b)(9): "cancel the Satisfaction Order and inform the Aggrieved Party of the identity of the Participant Exchange that
+// initiated the Trade-Through".
+fn say_named(initiator: u32) -> bool {
+    told(
+        b"home cancelled the order in time and named exchange ",
+        initiator,
+    );
+    say(b", which initiated the trade, 6.94(b)(9)")
+}
+
 fn say_price_reason(why: u32) -> bool {
     match why {
         11 => say(b"its price is the trade's, and the trade is no block, 6.94(a)(2)(i)"),
@@ -83,13 +94,14 @@ fn say_price_reason(why: u32) -> bool {
 }
 
 // The number, and its words.
-pub fn reason(why: u32, excuser: u32) {
+pub fn reason(why: u32, excuser: u32, initiator: u32) {
     told(b"  reason ", why);
     say(b": ");
     match why {
         0 => say(b"none, to be filled, 6.94(a)(2)"),
         10 => say(b"the sender was not traded through, and so is no aggrieved party, 6.92(a)(1)"),
         11..=13 => say_price_reason(why),
+        Naming::REASON => say_named(initiator),
         _ => say_exception(why, excuser),
     }
     ;

@@ -1,41 +1,50 @@
 -- What the rows of one trade say the reason on a Satisfaction Order, its customer contracts and its claim.
 use mathlib.Core.Path.{_≡_, refl, sym}
 use mathlib.Core.Bool.{Bool, true, false, not, _&&_, Bool·not-not}
-use mathlib.Core.List.{List}
 use Prim.Native.Nat.{ℕ, _+_, _-_}
 use lib.ListN.{getD}
-use Rattle.rules.specs.Basics.{if_then_else_, _==_, _atLeast_, _moreThan_, Row, _when_, _¦_, firstOf}
+use borrow.Author.Tests.{leb-true, leb-false, lt-ltb, le-ltb}
+use Rattle.rules.specs.Basics.{if_then_else_, _==_, _atMost_, _atLeast_, _moreThan_, any, firstOf}
 use Rattle.rules.specs.Limits.{closingMinutes}
 use Rattle.rules.specs.Header.{Header}
 use Rattle.rules.specs.Record.{buy, sell, Event, trade, satisfaction}
 use Rattle.rules.specs.Journal.{History, closingBegun}
 use Rattle.rules.specs.Prices.{standing, statusOf}
 use Rattle.rules.specs.Verdicts.{neither, theBid, through, sideThrough, isBlock}
-use Rattle.rules.specs.Reasons.{Case, senderQuote, senderSide, customers, hadSent, report, threeMinutes, oneMinute, timeToClaim, lateBy, required, reason}
+use Rattle.rules.specs.Reasons.{Case, senderQuote, senderSide, customers, hadSent, report, threeMinutes, oneMinute, minutesFrom, timeToClaim, lateBy, namesInTime, required, reason}
 use Rattle.rules.specs.Due.{leastOfThree, claim}
-use Rattle.rules.proofs.Tests.{bit-is}
+use Rattle.rules.proofs.Tests.{byTest, bit-is}
 use Rattle.trades.specs.Trades.{priceOn, customersOn, excusingSide, snap, snapAt, tradeRow}
 use Rattle.trades.proofs.Snaps.{excuser-tells}
 use Rattle.reasons.specs.declared.Facts.{Facts}
-use Rattle.reasons.specs.Reasons.{laterThan, allowedAt, requiredOf, reasonOf, claimOf}
+use Rattle.reasons.specs.Reasons.{laterThan, minutesAt, allowedAt, inTime, requiredOf, reasonOf, claimOf}
 
 -- an exchange that was not traded through is not asked for its excuse
-unasked : (outside had : Bool) (rest : List Row)
-    → firstOf (10 when outside ¦ 2 when had ¦ rest) ≡ firstOf (10 when outside ¦ 2 when (if outside then false else had) ¦ rest)
-unfolding firstOf
+unasked : (outside had : Bool) (rest : ℕ)
+    → (if outside then 10 else if had then 2 else rest) ≡ (if outside then 10 else if (if outside then false else had) then 2 else rest)
 unasked true had rest = refl
 unasked false had rest = refl
 
 -- one time is allowed, for 8 with no initiator, for 9 with one
-module _ (closing : Bool) (late : ℕ → Bool) where
-  allowed-with-none : (none : Bool)
-      → (none && late (if closing then oneMinute else threeMinutes)) ≡ (none && late (if none && closing then oneMinute else threeMinutes))
+module _ (minutes : ℕ) (late : ℕ → Bool) where
+  allowed-with-none : (none : Bool) → (none && late minutes) ≡ (none && late (if none then minutes else threeMinutes))
   allowed-with-none true = refl
   allowed-with-none false = refl
 
-  allowed-with-one : (none : Bool) → (not none && late threeMinutes) ≡ (not none && late (if none && closing then oneMinute else threeMinutes))
+  allowed-with-one : (none : Bool) → (not none && late threeMinutes) ≡ (not none && late (if none then minutes else threeMinutes))
   allowed-with-one true = refl
   allowed-with-one false = refl
+
+-- "up to and including" is not later than
+not-later : (limit now : ℕ) → not (now moreThan limit) ≡ (now atMost limit)
+not-later limit now =
+    byTest (now atMost limit)
+    (λ p. let le = leb-true now limit p in rw (p, le-ltb limit now le))
+    (λ p. let lt = leb-false now limit p in rw (p, lt-ltb limit now lt))
+
+pub in-time-is : (h : Header) (close : ℕ) → h .close ≡ close → (received now : ℕ) → inTime received close now ≡ (now atMost (received + minutesFrom h received))
+unfolding inTime laterThan minutesAt minutesFrom
+in-time-is h close closes received now = rw (← closes) (not-later _ now)
 
 -- ---- a case in words, of the sender y + 1
 
@@ -68,21 +77,23 @@ factsIn h k y =
     }
 
 module _ (h : Header) (k : Case) (y : ℕ) (es : (satisfaction (k .claim)) .sender ≡ y + 1) where
-  pub reason-words : reason h k ≡ reasonOf (factsIn h k y)
-  unfolding reason reasonOf snap tradeRow senderSide senderQuote sideThrough lateBy timeToClaim allowedAt laterThan customers required requiredOf priceOn customersOn excusingSide
-  reason-words =
+  -- of an order that nothing cancels in time
+  pub reason-words : any (namesInTime h (k .number) (k .claim)) (k .day) ≡ false → reason h k ≡ reasonOf (factsIn h k y)
+  unfolding firstOf reason reasonOf snap tradeRow senderSide senderQuote sideThrough lateBy minutesFrom timeToClaim minutesAt allowedAt laterThan customers required requiredOf priceOn customersOn excusingSide
+  reason-words stands =
       let t = trade (k .trade) in
       let side : ℕ = through (standing (y + 1) (t .series) (k .before)) (t .price) in
       let had : Bool = hadSent (y + 1) (t .series) (if side == theBid then sell else buy) (k .trade .time) (k .before) in
-      let closing : Bool = report (k .trade) atLeast (h .close - closingMinutes) in
+      let minutes : ℕ = if report (k .trade) atLeast (h .close - closingMinutes) then oneMinute else threeMinutes in
       let late : ℕ → Bool = λ allowed. k .claim .time moreThan (report (k .trade) + allowed) in
       rw (
+        stands,
         es,
         excuser-tells side (y + 1) (t .series) (k .trade .time) (k .before),
         bit-is (isBlock h (k .before) t),
         Bool·not-not (t .initiator == 0),
-        allowed-with-none closing late (t .initiator == 0),
-        allowed-with-one closing late (t .initiator == 0),
+        allowed-with-none minutes late (t .initiator == 0),
+        allowed-with-one minutes late (t .initiator == 0),
       )
       (unasked (side == neither) had _)
 

@@ -1,6 +1,6 @@
 -- The table of reasons, one law for each way out of the code: the tests above it failed, its own holds.
 use mathlib.Core.Path.{_≡_, refl, sym, ap, _∙_}
-use mathlib.Core.Bool.{Bool, true, false, not, _&&_}
+use mathlib.Core.Bool.{Bool, true, false, not, _&&_, or-true}
 use mathlib.Core.List.{List, [], _∷_, _++_}
 use Prim.Native.Nat.{ℕ, _+_, _-_, _≤_, _<_, min}
 use native.Mathlib.Omega.{arith}
@@ -13,8 +13,9 @@ use Rattle.rules.specs.Verdicts.{neither}
 use Rattle.rules.specs.Reasons.{threeMinutes, oneMinute}
 use Rattle.rules.specs.Due.{mostAtTheClose, limited, leastOf}
 use Rattle.rules.proofs.Tests.{byTest, and-left, and-right}
+use Rattle.rules.proofs.Naming.{named}
 use Rattle.reasons.specs.declared.Facts.{Facts}
-use Rattle.reasons.specs.Reasons.{laterThan, allowedAt, requiredOf, byTrade, byTime, byPrice, tradeReason, lateReason, priceReason, reasonOf, claimOf}
+use Rattle.reasons.specs.Reasons.{laterThan, minutesAt, allowedAt, inTime, requiredOf, byTrade, byTime, byPrice, tradeReason, lateReason, priceReason, reasonOf, claimOf}
 
 pub later-by-words : (report allowed now a b : ℕ) → (a ≡ report) × (a < 4294967296) → (b ≡ now) × (b < 4294967296) → ltb (a + allowed) b ≡ laterThan report allowed now
 unfolding laterThan
@@ -27,23 +28,53 @@ in-closing-minutes report close =
     (λ p. let h = leb-true close (report + closingMinutes) p in p ∙ sym (le-leb (close - closingMinutes) report (omega arith)))
     (λ p. let h = leb-false close (report + closingMinutes) p in p ∙ sym (lt-leb (close - closingMinutes) report (omega arith)))
 
-module _ (initiator report close a c : ℕ) (ea : (a ≡ report) × (a < 4294967296)) (ec : (c ≡ close) × (c < 4294967296))
-    (b : Bool) (eb : b ≡ (eqb initiator 0 && leb c (a + closingMinutes))) where
-  closing-test : (eqb initiator 0 && leb (close - closingMinutes) report) ≡ b
-  closing-test = sym (eb ∙ rw (ea .0, ec .0, in-closing-minutes report close))
+module _ (moment close a c : ℕ) (ea : (a ≡ moment) × (a < 4294967296)) (ec : (c ≡ close) × (c < 4294967296)) where
+  closing-test : leb (close - closingMinutes) moment ≡ leb c (a + closingMinutes)
+  closing-test = rw (ea .0, ec .0) (sym (in-closing-minutes moment close))
 
-  pub one-minute-allowed : b ≡ true → oneMinute ≡ allowedAt initiator report close
-  unfolding allowedAt
-  one-minute-allowed p = rw (closing-test ∙ p)
+  pub one-minute-from : c ≤ a + closingMinutes → oneMinute ≡ minutesAt moment close
+  unfolding minutesAt
+  one-minute-from p = rw (closing-test, le-leb c (a + closingMinutes) p)
 
-  pub three-minutes-allowed : b ≡ false → threeMinutes ≡ allowedAt initiator report close
+  pub three-minutes-from : a + closingMinutes < c → threeMinutes ≡ minutesAt moment close
+  unfolding minutesAt
+  three-minutes-from p = rw (closing-test, lt-leb c (a + closingMinutes) p)
+
+minutes-at-most : (moment close : ℕ) → minutesAt moment close ≤ threeMinutes
+unfolding minutesAt
+minutes-at-most moment close = byTest (leb (close - closingMinutes) moment) (λ p. rw p (omega arith)) (λ p. rw p (omega arith))
+
+module _ (moment close a : ℕ) (e : a ≡ minutesAt moment close) where
+  pub minutes-few : a ≤ threeMinutes
+  minutes-few = rw e (minutes-at-most moment close)
+
+  pub minutes-allowed : (initiator : ℕ) → initiator ≡ 0 → a ≡ allowedAt initiator moment close
   unfolding allowedAt
-  three-minutes-allowed p = rw (closing-test ∙ p)
+  minutes-allowed initiator p = e ∙ rw (eq-eqb initiator 0 p)
+
+  pub not-later : (now : ℕ) (late : Bool) → late ≡ laterThan moment a now → not late ≡ inTime moment close now
+  unfolding inTime
+  not-later now late p = rw (p, e)
+
+pub three-minutes-allowed : (initiator report close : ℕ) → (initiator ≡ 0 → ⊥) → threeMinutes ≡ allowedAt initiator report close
+unfolding allowedAt
+three-minutes-allowed initiator report close p = rw (ne-eqb initiator 0 p)
 
 pub allowed-at-most : (initiator report close a : ℕ) → a ≡ allowedAt initiator report close → a ≤ threeMinutes
 unfolding allowedAt
 allowed-at-most initiator report close a e =
-    byTest (eqb initiator 0 && leb (close - closingMinutes) report) (λ p. rw (e, p) (omega arith)) (λ p. rw (e, p) (omega arith))
+    byTest (eqb initiator 0) (λ p. rw (e, p) (minutes-at-most report close)) (λ p. rw (e, p) (omega arith))
+
+-- "14, judged after 9 and before 11"
+module _ (why : ℕ) where
+  pub named-for-none : why ≡ 0 → 14 ≡ named why
+  named-for-none p = rw (eq-eqb why 0 p)
+
+  pub named-for-a-later : 11 ≤ why → 14 ≡ named why
+  named-for-a-later p = rw (le-leb 11 why p, or-true (eqb why 0))
+
+  pub not-named-for-an-earlier : (why ≡ 0 → ⊥) → why < 11 → why ≡ named why
+  not-named-for-an-earlier p q = rw (ne-eqb why 0 p, lt-leb 11 why q)
 
 module _ (block price there : ℕ) where
   pub required-of-block : block ≡ 1 → price ≡ requiredOf block price there
@@ -75,7 +106,7 @@ module _ (why size customers traded closing : ℕ) where
   unfolding claimOf
   no-claim p = rw (ne-eqb why 0 p)
 
-pub ruleset word-laws = (later-by-words, one-minute-allowed, three-minutes-allowed, required-of-block, required-otherwise, least-in-turn, limited-in-window, not-limited, claim-is-least, no-claim)
+pub ruleset word-laws = (later-by-words, one-minute-from, three-minutes-from, minutes-few, minutes-allowed, not-later, three-minutes-allowed, named-for-none, named-for-a-later, not-named-for-an-earlier, required-of-block, required-otherwise, least-in-turn, limited-in-window, not-limited, claim-is-least, no-claim)
 
 module _ (side excuser status home initiator complex : ℕ) where
   pub reason-10 : side ≡ neither → 10 ≡ tradeReason side excuser status home initiator complex

@@ -14,11 +14,18 @@ use Rattle.reasons.specs.declared.Facts.{Facts}
 unfoldable pub laterThan : ℕ → ℕ → ℕ → Bool
 laterThan report allowed now = now moreThan (report + allowed)
 
--- how long after the report an order may come: "180,000 ms, or .. 60,000 if the report is at or after close less 300,000", the
--- second where there is no initiator
+-- "180,000 ms", or "60,000 if" the moment is "at or after close less 300,000"
+unfoldable pub minutesAt : ℕ → ℕ → ℕ
+minutesAt moment close = if moment atLeast (close - closingMinutes) then oneMinute else threeMinutes
+
+-- how long after the report an order may come: three minutes or one, and three where there is an initiator
 unfoldable pub allowedAt : ℕ → ℕ → ℕ → ℕ
-allowedAt initiator report close =
-    if initiator == 0 && report atLeast (close - closingMinutes) then oneMinute else threeMinutes
+allowedAt initiator report close = if initiator == 0 then minutesAt report close else threeMinutes
+
+-- an order that was received at one time is cancelled at another in time: "up to and including 180,000 ms after receiving it, or 60,000
+-- if we received it at or after close less 300,000"
+unfoldable pub inTime : ℕ → ℕ → ℕ → Bool
+inTime received close cancelled = not (laterThan received (minutesAt received close) cancelled)
 
 -- "for a block the trade's, otherwise the bid or offer traded through"
 unfoldable pub requiredOf : ℕ → ℕ → ℕ → ℕ
@@ -62,7 +69,7 @@ lateReason initiator report close now = firstOf (byTime initiator report close n
 unfoldable pub priceReason : ℕ → ℕ → ℕ → ℕ → ℕ → ℕ
 priceReason asked price block there contracts = firstOf (byPrice asked price block there contracts)
 
--- the whole table
+-- the whole table, for an order that nothing cancels in time
 unfoldable pub reasonOf : Facts → ℕ
 reasonOf k =
     firstOf

@@ -5,13 +5,14 @@ ghost use Prim.Native.Nat.{_≤_};
 ghost use Rattle.rules.specs.Basics.{_==_};
 ghost use Rattle.rules.specs.Reasons.{threeMinutes};
 ghost use Rattle.rules.specs.Due.{leastOf, limited};
-ghost use Rattle.reasons.specs.Reasons.{laterThan, allowedAt, requiredOf, tradeReason, lateReason, priceReason, reasonOf, claimOf};
+ghost use Rattle.rules.proofs.Naming.{named};
+ghost use Rattle.reasons.specs.Reasons.{minutesAt, laterThan, allowedAt, inTime, requiredOf, tradeReason, lateReason, priceReason, reasonOf, claimOf};
 use prices::Side;
 use rows::Closing;
 use rows::Complex;
 use rows::Status;
 
-// How long after the report a Satisfaction Order may come.
+// How long after the report a Satisfaction Order may come, and how long after that it may be cancelled.
 pub struct Receipt;
 
 impl Receipt {
@@ -56,16 +57,32 @@ fn later_than(report: u32, allowed: u64, time: u32) -> bool
     rows::wide(report) + allowed < rows::wide(time)
 }
 
-// How long after the report an order may come: "180,000 ms, or .. 60,000 if the report is at or after close less 300,000", which
-// is said where there is no initiator.
-pub fn allowed(initiator: u32, report: u32, close: u32) -> u64
-    ensures { λ r. ⌜ r ≡ allowedAt initiator report close ⌝ }
+// "180,000 ms", or "60,000 if" the moment is "at or after close less 300,000"
+pub fn minutes_from(moment: u32, close: u32) -> u64
+    ensures { λ r. ⌜ r ≡ minutesAt moment close ⌝ }
 {
-    let closing = rows::wide(close) <= rows::wide(report) + Receipt::CLOSING_MINUTES;
-    if both(initiator == 0, closing) {
+    if rows::wide(close) <= rows::wide(moment) + Receipt::CLOSING_MINUTES {
         return Receipt::ONE_MINUTE;
     }
     Receipt::THREE_MINUTES
+}
+
+// How long after the report an order may come: three minutes or one, and three where there is an initiator.
+pub fn allowed(initiator: u32, report: u32, close: u32) -> u64
+    ensures { λ r. ⌜ r ≡ allowedAt initiator report close ⌝ }
+{
+    if initiator == 0 {
+        return minutes_from(report, close);
+    }
+    Receipt::THREE_MINUTES
+}
+
+// Whether an order that was received at one time is cancelled at another in time: "up to and including 180,000 ms after receiving it, or
+// 60,000 if we received it at or after close less 300,000".
+pub fn in_time(received: u32, close: u32, cancelled: u32) -> bool
+    ensures { λ r. ⌜ r ≡ inTime received close cancelled ⌝ }
+{
+    !later_than(received, minutes_from(received, close), cancelled)
 }
 
 // "for a block the trade's, otherwise the bid or offer traded through"
@@ -155,6 +172,30 @@ pub fn reason_of(k: Facts) -> u32
         return by_time;
     }
     price_reason(k.asked, k.price, k.block, k.there, k.customers)
+}
+
+// An order that was cancelled in time, with its initiator named.
+pub struct Naming;
+
+impl Naming {
+    // "A cancellation in time makes reason 14"
+    pub const REASON: u32 = 14;
+
+    // "judged after 9 and before 11": the first of those that give way to it.
+    pub const BEFORE: u32 = 11;
+}
+
+// The reason on an order that was cancelled in time, by the one that it would have.
+pub fn named(why: u32) -> u32
+    ensures { λ r. ⌜ r ≡ named why ⌝ }
+{
+    if why == 0 {
+        return Naming::REASON;
+    }
+    if Naming::BEFORE <= why {
+        return Naming::REASON;
+    }
+    why
 }
 
 // "the least of order size, customer contracts and trade size"

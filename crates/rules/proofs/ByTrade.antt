@@ -27,7 +27,7 @@ later base l ls f i h = f (suc i) (omega arith) ∙ omega arith
 
 pub lines-numbered-from-0 : (j : Journal) → NumberedFrom 0 (lines j)
 unfolding lines
-lines-numbered-from-0 j i h = lines-numbered (j .header) (j .history) _ i h ∙ omega arith
+lines-numbered-from-0 j i h = lines-numbered (j .header) (j .history) (j .history) _ i h ∙ omega arith
 
 -- ---- a line among those of its trade
 

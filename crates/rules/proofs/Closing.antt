@@ -2,16 +2,15 @@
 -- journal without the record keeps every verdict it had: its claims and due totals are those of document 01 alone, and our own
 -- sheet, the list and the check take them from nowhere else.
 use mathlib.Core.Path.{_≡_, refl, ap}
-use mathlib.Core.Bool.{true, false, _&&_, true≢false, and-false}
+use mathlib.Core.Bool.{true, false, _&&_}
 use mathlib.Core.List.{List, [], _∷_, map, List·Memᴰ, List·Memᴰ·not-nil}
-use Prim.Native.Nat.{ℕ, zero, suc, _≤_, _<_}
+use Prim.Native.Nat.{ℕ, _≤_, _<_}
 use native.Mathlib.Omega.{arith}
 use lib.ListN.{length}
-use borrow.Author.Tests.{lt-leb, ne-eqb}
-use Rattle.rules.specs.Basics.{if_then_else_, _==_, _atLeast_, within, any, ok}
+use Rattle.rules.specs.Basics.{if_then_else_, _==_, any, ok}
 use Rattle.rules.specs.Header.{Header}
-use Rattle.rules.specs.Record.{quoteKind, satisfactionKind, closingKind, known, Event, trade, satisfaction, isTrade, isResponse, isSatisfaction, isClosing}
-use Rattle.rules.specs.Journal.{History, Journal, journal, count, nth, tradeAt, beforeTrade, closingBegun, responseBelongs, satisfactionBelongs, belongs}
+use Rattle.rules.specs.Record.{Event, trade, satisfaction, isTrade, isSatisfaction, isClosing}
+use Rattle.rules.specs.Journal.{History, Journal, journal, count, nth, tradeAt, beforeTrade, closingBegun}
 use Rattle.rules.specs.Reasons.{Case, caseOf, customers, reason}
 use Rattle.rules.specs.Due.{leastOf, leastOfThree, mostAtTheClose, limited, claim, Line, lineOf, linesOf, lines, ofTrade, capped, dueOf, due}
 use Rattle.rules.specs.GoodSheet.{noLine, lineAt, saidAt, GoodSheet}
@@ -55,12 +54,12 @@ pub record LineLimited (past : History) (l : Line) : Type 0 where
   pub before : closingBegun (beforeTrade (l .trade) past) ≡ false → l .claim ≡ lineClaim01 past l
 
 -- the line of an event after the history before it
-line-limited : (h : Header) (past : History) (n : ℕ) (e : Event) → LineLimited past (lineOf h past n e)
+line-limited : (h : Header) (day past : History) (n : ℕ) (e : Event) → LineLimited past (lineOf h day past n e)
 unfolding lineOf caseOf
-line-limited h past n e =
+line-limited h day past n e =
     record {
-      after = claim-after-closing h (caseOf past e);
-      before = claim-before-closing h (caseOf past e);
+      after = claim-after-closing h (caseOf day past n e);
+      before = claim-before-closing h (caseOf day past n e);
     }
 
 -- one more event changes neither the trade of an earlier line nor what came before it
@@ -71,20 +70,20 @@ limited-later e past l older o =
       before = rw (beforeTrade-older (l .trade) e past older, tradeAt-older (l .trade) e past older) (o .before);
     }
 
-pub lines-limited : {h : Header} {past : History} → Arrived h past → (l : Line) → List·Memᴰ l (linesOf h past) → LineLimited past l
+pub lines-limited : {h : Header} {past : History} → Arrived h past → (day : History) (l : Line) → List·Memᴰ l (linesOf h day past) → LineLimited past l
 unfolding linesOf
-lines-limited none l m = absurd (List·Memᴰ·not-nil m)
-lines-limited {h} (more {past} {e} v i b r) l m =
-    at-end (LineLimited (e ∷ past)) (linesOf h past) (isSatisfaction e) (lineOf h past (count isSatisfaction past) e)
-    (λ x k. limited-later e past x (lines-known v x k .of-a-trade) (lines-limited v x k))
-    (λ s. limited-later e past _ (unfold lineOf in satisfaction-known past e b s) (line-limited h past (count isSatisfaction past) e))
+lines-limited none day l m = absurd (List·Memᴰ·not-nil m)
+lines-limited {h} (more {past} {e} v i b r) day l m =
+    at-end (LineLimited (e ∷ past)) (linesOf h day past) (isSatisfaction e) (lineOf h day past (count isSatisfaction past) e)
+    (λ x k. limited-later e past x (lines-known v day x k .of-a-trade) (lines-limited v day x k))
+    (λ s. limited-later e past _ (unfold lineOf in satisfaction-known past e b s) (line-limited h day past (count isSatisfaction past) e))
     l m
 
 -- no good sheet fills more than ten on a line whose trade came after the record
 pub ten-filled-at-most : (s : List ℕ) (j : Journal) (sheet : List ℕ) → journal s ≡ ok j → (g : GoodSheet j sheet) (i : ℕ) → i < length (lines j)
     → closingBegun (beforeTrade (lineAt (lines j) i .trade) (j .history)) ≡ true → saidAt (g .says) i .filled ≤ mostAtTheClose
 ten-filled-at-most s j sheet e g i l t =
-    let known : (x : Line) → List·Memᴰ x (lines j) → LineLimited (j .history) x = unfold lines in lines-limited (journal-arrived s j e) in
+    let known : (x : Line) → List·Memᴰ x (lines j) → LineLimited (j .history) x = unfold lines in lines-limited (journal-arrived s j e) (j .history) in
     omega (arith, g .good-lines .not-beyond-its-claim i l, by-place (LineLimited (j .history)) noLine (lines j) known i l .after t)
 
 -- ---- a journal without the record
@@ -104,8 +103,8 @@ not-begun-before-trade n (e ∷ past) t =
 
 -- "A journal without the record keeps every verdict it had."
 pub claims-without-closing : {h : Header} {past : History} → Arrived h past → closingBegun past ≡ false
-    → (l : Line) → List·Memᴰ l (linesOf h past) → l .claim ≡ lineClaim01 past l
-claims-without-closing {h} {past} v t l m = lines-limited v l m .before (not-begun-before-trade (l .trade) past t)
+    → (day : History) (l : Line) → List·Memᴰ l (linesOf h day past) → l .claim ≡ lineClaim01 past l
+claims-without-closing {h} {past} v t day l m = lines-limited v day l m .before (not-begun-before-trade (l .trade) past t)
 
 pub due-without-closing : (s : List ℕ) (j : Journal) → journal s ≡ ok j → closingBegun (j .history) ≡ false → (n : ℕ)
     → due j n
@@ -113,43 +112,5 @@ pub due-without-closing : (s : List ℕ) (j : Journal) → journal s ≡ ok j �
     (map (lineClaim01 (j .history)) (ofTrade n (lines j)))
 unfolding due
 due-without-closing s j e t n =
-    let known : (l : Line) → List·Memᴰ l (lines j) → l .claim ≡ lineClaim01 (j .history) l = unfold lines in claims-without-closing (journal-arrived s j e) t in
+    let known : (l : Line) → List·Memᴰ l (lines j) → l .claim ≡ lineClaim01 (j .history) l = unfold lines in claims-without-closing (journal-arrived s j e) t (j .history) in
     rw (map-same (λ (l : Line). l .claim) (lineClaim01 (j .history)) (ofTrade n (lines j)) (λ l m. known l (unfold ofTrade in keep-sub _ (lines j) l m)))
-
--- ---- reading: but for the record itself, what is a kind and what belongs is what it was
-
-unknown-beyond : (h : Header) (k : ℕ) → closingKind < k → known h k ≡ within quoteKind satisfactionKind k
-unfolding known any
-unknown-beyond h k high =
-    let other : (n : ℕ) → n ≤ closingKind → (k == n) ≡ false = λ n low. ne-eqb k n (λ q. omega arith) in
-    rw (
-      other 1 (omega arith),
-      other 2 (omega arith),
-      other 3 (omega arith),
-      other 4 (omega arith),
-      other 5 (omega arith),
-      other 6 (omega arith),
-      other 7 (omega arith),
-      other 9 (omega arith),
-      lt-leb k satisfactionKind (omega arith),
-      and-false (k atLeast quoteKind),
-    )
-
-pub known-otherwise : (h : Header) (k : ℕ) → (k == closingKind) ≡ false → known h k ≡ within quoteKind satisfactionKind k
-unfolding known any
-known-otherwise h zero other = refl
-known-otherwise h (suc zero) other = refl
-known-otherwise h (suc (suc zero)) other = refl
-known-otherwise h (suc (suc (suc zero))) other = refl
-known-otherwise h (suc (suc (suc (suc zero)))) other = refl
-known-otherwise h (suc (suc (suc (suc (suc zero))))) other = refl
-known-otherwise h (suc (suc (suc (suc (suc (suc zero)))))) other = refl
-known-otherwise h (suc (suc (suc (suc (suc (suc (suc zero))))))) other = refl
-known-otherwise h (suc (suc (suc (suc (suc (suc (suc (suc zero)))))))) other = refl
-known-otherwise h (suc (suc (suc (suc (suc (suc (suc (suc (suc zero))))))))) other = absurd (true≢false other)
-known-otherwise h (suc (suc (suc (suc (suc (suc (suc (suc (suc (suc k)))))))))) other = unknown-beyond h (suc (suc (suc (suc (suc (suc (suc (suc (suc (suc k)))))))))) (omega arith)
-
-pub belongs-otherwise : (past : History) (e : Event) → isClosing e ≡ false
-    → belongs past e ≡ (if isResponse e then responseBelongs past e else if isSatisfaction e then satisfactionBelongs past e else true)
-unfolding belongs
-belongs-otherwise past e other = rw other

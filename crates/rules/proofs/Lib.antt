@@ -6,8 +6,10 @@ pub mod Numbers
 pub mod Records
 pub mod Journals
 pub mod Totals
+pub mod Otherwise
 pub mod Lines
 pub mod Closing
+pub mod Naming
 pub mod TradeLines
 pub mod Giving
 pub mod OwnSheet

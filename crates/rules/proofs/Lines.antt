@@ -21,7 +21,7 @@ use Rattle.rules.proofs.Journals.{Arrived, none, more, journal-arrived}
 
 -- ---- reasons
 
-firstOf-among : (good : ℕ → Bool) → good 0 ≡ true → (rows : List Row) → all (λ r. good (r .number)) rows ≡ true → good (firstOf rows) ≡ true
+pub firstOf-among : (good : ℕ → Bool) → good 0 ≡ true → (rows : List Row) → all (λ r. good (r .number)) rows ≡ true → good (firstOf rows) ≡ true
 unfolding firstOf all
 firstOf-among good z [] e = z
 firstOf-among good z (r ∷ rows) e =
@@ -30,15 +30,15 @@ firstOf-among good z (r ∷ rows) e =
     (λ t. rw t (firstOf-among good z rows (and-right (good (r .number)) (all (λ s. good (s .number)) rows) e)))
 
 abbrev pub isReason : ℕ → Bool
-isReason n = n == 0 || within 2 13 n
+isReason n = n == 0 || within 2 14 n
 
 pub reason-among : (h : Header) (k : Case) → isReason (reason h k) ≡ true
 unfolding reason all
 reason-among h k = firstOf-among isReason refl _ refl
 
-pub reason-at-most-13 : (h : Header) (k : Case) → reason h k ≤ 13
+pub reason-at-most-14 : (h : Header) (k : Case) → reason h k ≤ 14
 unfolding reason all
-reason-at-most-13 h k = leb-true _ _ (firstOf-among (λ n. n atMost 13) refl _ refl)
+reason-at-most-14 h k = leb-true _ _ (firstOf-among (λ n. n atMost 14) refl _ refl)
 
 -- ---- claims: "the least of order size, customer contracts and trade size"
 
@@ -94,19 +94,19 @@ pub record LineKnown (h : Header) (past : History) (l : Line) : Type 0 where
   pub numbered : l .number < count isSatisfaction past
   pub of-a-trade : l .trade < count isTrade past
   pub size-fits : l .size ≤ mostContracts
-  pub reason-fits : l .reason ≤ 13
+  pub reason-fits : l .reason ≤ 14
   pub claim-in-order : l .claim ≤ l .size
   pub claim-in-customers : l .claim ≤ l .customers
   pub unclaimed : (l .reason == 0) ≡ false → l .claim ≡ 0
 
-pub lines-known : {h : Header} {past : History} → Arrived h past → (l : Line) → List·Memᴰ l (linesOf h past) → LineKnown h past l
+pub lines-known : {h : Header} {past : History} → Arrived h past → (day : History) (l : Line) → List·Memᴰ l (linesOf h day past) → LineKnown h past l
 unfolding linesOf lineOf caseOf
-lines-known none l m = absurd (List·Memᴰ·not-nil m)
-lines-known {h} (more {past} {e} v i b r) l m =
+lines-known none day l m = absurd (List·Memᴰ·not-nil m)
+lines-known {h} (more {past} {e} v i b r) day l m =
     let g = count-grows isSatisfaction e past in
     let t = count-grows isTrade e past in
-    at-end (LineKnown h (e ∷ past)) (linesOf h past) (isSatisfaction e) (lineOf h past (count isSatisfaction past) e)
-    (λ x k. let o = lines-known v x k in
+    at-end (LineKnown h (e ∷ past)) (linesOf h day past) (isSatisfaction e) (lineOf h day past (count isSatisfaction past) e)
+    (λ x k. let o = lines-known v day x k in
     record {
       numbered = omega (arith, o .numbered);
       of-a-trade = omega (arith, o .of-a-trade);
@@ -116,40 +116,40 @@ lines-known {h} (more {past} {e} v i b r) l m =
       claim-in-customers = o .claim-in-customers;
       unclaimed = o .unclaimed;
     })
-    (λ s. let c = claim-at-most h (caseOf past e) in
+    (λ s. let c = claim-at-most h (caseOf day past (count isSatisfaction past) e) in
     record {
       numbered = omega (arith, count-cons isSatisfaction e past s);
       of-a-trade = omega (arith, satisfaction-known past e b s);
       size-fits = satisfaction-fits h e i s;
-      reason-fits = reason-at-most-13 h (caseOf past e);
+      reason-fits = reason-at-most-14 h (caseOf day past (count isSatisfaction past) e);
       claim-in-order = c .order-size;
       claim-in-customers = c .customer-contracts;
-      unclaimed = no-claim-with-a-reason h (caseOf past e);
+      unclaimed = no-claim-with-a-reason h (caseOf day past (count isSatisfaction past) e);
     })
     l m
 
 pub journal-lines-known : (s : List ℕ) (j : Journal) → journal s ≡ ok j → (l : Line) → List·Memᴰ l (lines j) → LineKnown (j .header) (j .history) l
 unfolding lines
-journal-lines-known s j e l m = lines-known (journal-arrived s j e) l m
+journal-lines-known s j e l m = lines-known (journal-arrived s j e) (j .history) l m
 
 -- one line for each Satisfaction Order
-pub lines-count : (h : Header) (past : History) → length (linesOf h past) ≡ count isSatisfaction past
+pub lines-count : (h : Header) (day past : History) → length (linesOf h day past) ≡ count isSatisfaction past
 unfolding linesOf
-lines-count h [] = unfold count keep in refl
-lines-count h (e ∷ past) =
+lines-count h day [] = unfold count keep in refl
+lines-count h day (e ∷ past) =
     byTest (isSatisfaction e)
-    (λ c. rw (c, length-append (linesOf h past) (lineOf h past (count isSatisfaction past) e ∷ []), lines-count h past, count-cons isSatisfaction e past c) (omega arith))
-    (λ c. rw (c, append-nil (linesOf h past), lines-count h past, count-skip isSatisfaction e past c))
+    (λ c. rw (c, length-append (linesOf h day past) (lineOf h day past (count isSatisfaction past) e ∷ []), lines-count h day past, count-cons isSatisfaction e past c) (omega arith))
+    (λ c. rw (c, append-nil (linesOf h day past), lines-count h day past, count-skip isSatisfaction e past c))
 
 -- ---- no two lines have one number
 
-numbered-below : (h : Header) (past : History) (l : Line) → List·Memᴰ l (linesOf h past) → l .number < count isSatisfaction past
+pub numbered-below : (h : Header) (day past : History) (l : Line) → List·Memᴰ l (linesOf h day past) → l .number < count isSatisfaction past
 unfolding linesOf lineOf
-numbered-below h [] l m = absurd (List·Memᴰ·not-nil m)
-numbered-below h (e ∷ past) l m =
+numbered-below h day [] l m = absurd (List·Memᴰ·not-nil m)
+numbered-below h day (e ∷ past) l m =
     let g = count-grows isSatisfaction e past in
-    at-end (λ x. x .number < count isSatisfaction (e ∷ past)) (linesOf h past) (isSatisfaction e) (lineOf h past (count isSatisfaction past) e)
-    (λ x k. let n = numbered-below h past x k in omega arith)
+    at-end (λ x. x .number < count isSatisfaction (e ∷ past)) (linesOf h day past) (isSatisfaction e) (lineOf h day past (count isSatisfaction past) e)
+    (λ x k. let n = numbered-below h day past x k in omega arith)
     (λ c. let n = count-cons isSatisfaction e past c in omega arith)
     l m
 
@@ -171,12 +171,12 @@ apart-keep f (further {l} {ls} g a) =
     (λ e. rw e (further (λ m k. g m (keep-sub f ls m k)) (apart-keep f a)))
     (λ e. rw e (apart-keep f a))
 
-pub lines-apart : (h : Header) (past : History) → Apart (linesOf h past)
+pub lines-apart : (h : Header) (day past : History) → Apart (linesOf h day past)
 unfolding linesOf lineOf
-lines-apart h [] = alone
-lines-apart h (e ∷ past) =
-    apart-end (isSatisfaction e) (lineOf h past (count isSatisfaction past) e) (lines-apart h past)
-    (λ m k q. let b = numbered-below h past m k in omega arith)
+lines-apart h day [] = alone
+lines-apart h day (e ∷ past) =
+    apart-end (isSatisfaction e) (lineOf h day past (count isSatisfaction past) e) (lines-apart h day past)
+    (λ m k q. let b = numbered-below h day past m k in omega arith)
 
 -- ---- due totals: "the lesser of trade size and the sum of claims; else the sum of claims"
 
@@ -201,12 +201,12 @@ last-numbered xs x d n f i l =
     let e : length xs ≡ i = omega (arith, length-append xs (x ∷ [])) in
     ap (λ (y : Line). y .number) (getD-at xs x [] d i e) ∙ n ∙ e)
 
-pub lines-numbered : (h : Header) (past : History) (d : Line) (i : ℕ) → i < length (linesOf h past) → (getD (linesOf h past) i d) .number ≡ i
+pub lines-numbered : (h : Header) (day past : History) (d : Line) (i : ℕ) → i < length (linesOf h day past) → (getD (linesOf h day past) i d) .number ≡ i
 unfolding linesOf
-lines-numbered h [] d i l = absurd (omega arith)
-lines-numbered h (e ∷ past) d i l =
-    let ih = lines-numbered h past d in
-    let new : lineOf h past (count isSatisfaction past) e .number ≡ length (linesOf h past) = unfold lineOf in sym (lines-count h past) in
+lines-numbered h day [] d i l = absurd (omega arith)
+lines-numbered h day (e ∷ past) d i l =
+    let ih = lines-numbered h day past d in
+    let new : lineOf h day past (count isSatisfaction past) e .number ≡ length (linesOf h day past) = unfold lineOf in sym (lines-count h day past) in
     byTest (isSatisfaction e)
-    (λ s. rw s (last-numbered (linesOf h past) (lineOf h past (count isSatisfaction past) e) d new ih i (rw s at l)))
-    (λ s. rw (s, append-nil (linesOf h past)) (ih i (rw (s, append-nil (linesOf h past)) at l)))
+    (λ s. rw s (last-numbered (linesOf h day past) (lineOf h day past (count isSatisfaction past) e) d new ih i (rw s at l)))
+    (λ s. rw (s, append-nil (linesOf h day past)) (ih i (rw (s, append-nil (linesOf h day past)) at l)))

@@ -147,7 +147,7 @@ own-lines j n = give-lines (due j n) (map empty (ofTrade n (lines j))) ∙ empty
 
 pub own-apart : (j : Journal) (n : ℕ) → Apart (linesIn (ownShares j n))
 unfolding ofTrade lines
-own-apart j n = rw (own-lines j n) (apart-keep _ (lines-apart (j .header) (j .history)))
+own-apart j n = rw (own-lines j n) (apart-keep _ (lines-apart (j .header) (j .history) (j .history)))
 
 own-share : (j : Journal) (n : ℕ) (l : Line) → List·Memᴰ l (ofTrade n (lines j)) → record { line = l; filled = ownFill j l } ≡ shareIn (ownShares j n) l
 unfolding ofTrade ownFill shareIn

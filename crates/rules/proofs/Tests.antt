@@ -136,6 +136,17 @@ unfolding keep
 keep-map p g [] = refl
 keep-map p g (x ∷ l) = byTest (p (g x)) (λ e. rw (e, keep-map p g l)) (λ e. rw (e, keep-map p g l))
 
+-- what is kept is the same where the test is, and where it holds the element is
+pub keep-map-same : {A : Type 0} (p : A → Bool) (f : A → A) (l : List A) → ((x : A) → List·Memᴰ x l → p (f x) ≡ p x)
+    → ((x : A) → List·Memᴰ x l → p x ≡ true → f x ≡ x) → keep p (map f l) ≡ keep p l
+unfolding keep
+keep-map-same p f [] tests same = refl
+keep-map-same p f (x ∷ l) tests same =
+    let ih = keep-map-same p f l (λ y m. tests y (List·Memᴰ·tail m)) (λ y m. same y (List·Memᴰ·tail m)) in
+    byTest (p x)
+    (λ e. rw (tests x (List·Memᴰ·head refl), e, same x (List·Memᴰ·head refl) e, ih))
+    (λ e. rw (tests x (List·Memᴰ·head refl), e, ih))
+
 pub keep-append : {A : Type 0} (f : A → Bool) (a b : List A) → keep f (a ++ b) ≡ keep f a ++ keep f b
 unfolding keep
 keep-append f [] b = refl

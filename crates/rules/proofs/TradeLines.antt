@@ -93,23 +93,23 @@ predecessor : (x : ℕ) → 1 ≤ x → (y : ℕ) × (x ≡ suc y)
 predecessor zero h = absurd (omega arith)
 predecessor (suc y) h = (y, refl)
 
-lines-by-exchange : {h : Header} {past : History} → Arrived h past → (n : ℕ) → length (ofTrade n (linesOf h past)) ≡ sentByAll n past (h .exchanges)
+lines-by-exchange : {h : Header} {past : History} → Arrived h past → (day : History) (n : ℕ) → length (ofTrade n (linesOf h day past)) ≡ sentByAll n past (h .exchanges)
 unfolding linesOf
-lines-by-exchange {h} none n = unfold ofTrade keep in none-sent n (h .exchanges)
-lines-by-exchange {h} (more {past} {e} v i b r) n =
-    let ih = lines-by-exchange v n in
+lines-by-exchange {h} none day n = unfold ofTrade keep in none-sent n (h .exchanges)
+lines-by-exchange {h} (more {past} {e} v i b r) day n =
+    let ih = lines-by-exchange v day n in
     byTest (isSatisfaction e)
     (λ s.
-    let l : Line = lineOf h past (count isSatisfaction past) e in
-    let long = one-more-line n (linesOf h past) l in
+    let l : Line = lineOf h day past (count isSatisfaction past) e in
+    let long = one-more-line n (linesOf h day past) l in
     let p = sender-in h e i s in
     let y = predecessor ((satisfaction e) .sender) (p .0) in
     byTest ((satisfaction e) .trade == n)
     (λ t. rw (s, long, of-trade, t, ih, all-one-more n e past (y .0) (h .exchanges) (y .1) (omega (arith, p .1, y .1)) (unfold sentBy in rw (s, t, eq-eqb _ _ (y .1)))) (omega arith))
     (λ t. rw (s, long, of-trade, t, ih, all-kept n e past (h .exchanges) (λ x k. sentBy-trade n x e (rw (s, t)))) (omega arith)))
-    (λ s. rw (s, append-nil (linesOf h past), ih, all-kept n e past (h .exchanges) (λ x k. sentBy-trade n x e (rw s))))
+    (λ s. rw (s, append-nil (linesOf h day past), ih, all-kept n e past (h .exchanges) (λ x k. sentBy-trade n x e (rw s))))
   where
-    of-trade : lineOf h past (count isSatisfaction past) e .trade ≡ (satisfaction e) .trade
+    of-trade : lineOf h day past (count isSatisfaction past) e .trade ≡ (satisfaction e) .trade
     of-trade = unfold lineOf in refl
 
 -- an exchange sends at most one for a trade
@@ -143,5 +143,5 @@ unfolding sentByAll
 all-at-most v n zero = omega arith
 all-at-most v n (suc k) = let more = all-at-most v n k in omega (arith, one-at-most v n k)
 
-pub trade-has-at-most-a-line-for-each-exchange : {h : Header} {past : History} → Arrived h past → (n : ℕ) → length (ofTrade n (linesOf h past)) ≤ h .exchanges
-trade-has-at-most-a-line-for-each-exchange {h} v n = rw (lines-by-exchange v n) (all-at-most v n (h .exchanges))
+pub trade-has-at-most-a-line-for-each-exchange : {h : Header} {past : History} → Arrived h past → (day : History) (n : ℕ) → length (ofTrade n (linesOf h day past)) ≤ h .exchanges
+trade-has-at-most-a-line-for-each-exchange {h} v day n = rw (lines-by-exchange v day n) (all-at-most v n (h .exchanges))

@@ -40,10 +40,10 @@ pub record Line : Type 0 where
   pub customers : ℕ
   pub claim : ℕ
 
--- of the Satisfaction Order numbered n, after the history before it
-unfoldable pub lineOf : Header → History → ℕ → Event → Line
-lineOf h past n e =
-    let k = caseOf past e in
+-- of the Satisfaction Order numbered n of a day, after the history before it
+unfoldable pub lineOf : Header → History → History → ℕ → Event → Line
+lineOf h day past n e =
+    let k = caseOf day past n e in
     record {
       number = n;
       trade = (satisfaction e) .trade;
@@ -53,14 +53,14 @@ lineOf h past n e =
       claim = claim h k;
     }
 
--- in the order of the journal
-unfoldable pub linesOf : Header → History → List Line
-linesOf h [] = []
-linesOf h (e ∷ past) =
-    linesOf h past ++ (if isSatisfaction e then lineOf h past (count isSatisfaction past) e ∷ [] else [])
+-- of the Satisfaction Orders in `past`, each judged over the whole day; in the order of the journal
+unfoldable pub linesOf : Header → History → History → List Line
+linesOf h day [] = []
+linesOf h day (e ∷ past) =
+    linesOf h day past ++ (if isSatisfaction e then lineOf h day past (count isSatisfaction past) e ∷ [] else [])
 
 unfoldable pub lines : Journal → List Line
-lines j = linesOf (j .header) (j .history)
+lines j = linesOf (j .header) (j .history) (j .history)
 
 unfoldable pub ofTrade : ℕ → List Line → List Line
 ofTrade n ls = keep (λ (l : Line). l .trade == n) ls

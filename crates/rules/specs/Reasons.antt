@@ -1,28 +1,30 @@
 -- "Reasons on a Satisfaction Order, first that holds".
 use Prim.Native.Nat.{ℕ, _+_, _-_}
 use mathlib.Core.Bool.{Bool, not, _&&_, _||_}
-use mathlib.Core.List.{[]}
-use Rattle.rules.specs.Basics.{if_then_else_, _==_, _atLeast_, _moreThan_, any, below, _when_, _¦_, firstOf}
+use mathlib.Core.List.{List, []}
+use Rattle.rules.specs.Basics.{if_then_else_, _==_, _atMost_, _atLeast_, _moreThan_, any, below, Row, _when_, _¦_, firstOf}
 use Rattle.rules.specs.Limits.{closingMinutes}
 use Rattle.rules.specs.Header.{Header}
 use Rattle.rules.specs.Record.{complexTrade, buy, sell, Event, Quote, quote, trade, Order, order, response, satisfaction, isSent}
-use Rattle.rules.specs.Journal.{History, count, since, sentAt, tradeAt, beforeTrade, answers}
+use Rattle.rules.specs.Journal.{History, count, since, sentAt, tradeAt, beforeTrade, answers, names}
 use Rattle.rules.specs.Prices.{absent, quotes, standing, nonFirm, inRotation}
 use Rattle.rules.specs.Verdicts.{theBid, neither, shown, worse, sideThrough, isBlock}
 
--- ---- the case of a Satisfaction Order: itself, its trade, and the history before the trade. "Prices, customer contracts
--- and statuses are those at the trade."
+-- ---- the case of a Satisfaction Order: itself and its number, its trade, the history before the trade, and the whole day.
+-- "Prices, customer contracts and statuses are those at the trade."; a later record of the day may cancel it.
 
 pub record Case : Type 0 where
+  pub number : ℕ
   pub claim : Event
   pub trade : Event
   pub before : History
+  pub day : History
 
--- of a Satisfaction Order, after the history before it
-unfoldable pub caseOf : History → Event → Case
-caseOf past e =
-    let n = (satisfaction e) .trade in
-    record { claim = e; trade = tradeAt n past; before = beforeTrade n past }
+-- of the Satisfaction Order numbered n of a day, after the history before it
+unfoldable pub caseOf : History → History → ℕ → Event → Case
+caseOf day past n e =
+    let m = (satisfaction e) .trade in
+    record { number = n; claim = e; trade = tradeAt m past; before = beforeTrade m past; day = day }
 
 -- the sender's quote at the trade, and the side of it traded through
 unfoldable pub senderQuote : Case → Quote
@@ -82,13 +84,24 @@ threeMinutes = 180_000
 abbrev pub oneMinute : ℕ
 oneMinute = 60_000
 
+-- "180,000 ms", or "60,000 if" it was "at or after close less 300,000": of the report for 8, of the receipt for 14
+unfoldable pub minutesFrom : Header → ℕ → ℕ
+minutesFrom h moment = if moment atLeast (h .close - closingMinutes) then oneMinute else threeMinutes
+
 -- "plus 180,000 ms, or plus 60,000 if the report is at or after close less 300,000"
 unfoldable pub timeToClaim : Header → Event → ℕ
-timeToClaim h t = if report t atLeast (h .close - closingMinutes) then oneMinute else threeMinutes
+timeToClaim h t = minutesFrom h (report t)
 
 -- "received later than the report plus" some time
 unfoldable pub lateBy : ℕ → Event → Event → Bool
 lateBy allowed t e = e .time moreThan (report t + allowed)
+
+-- ---- 14
+
+-- document 02, b: "we may cancel the Satisfaction Order and name the initiator, up to and including 180,000 ms after receiving
+-- it, or 60,000 if we received it at or after close less 300,000"; "a late one cancels and changes nothing"
+unfoldable pub namesInTime : Header → ℕ → Event → Event → Bool
+namesInTime h n c e = names n e && e .time atMost (c .time + minutesFrom h (c .time))
 
 -- ---- 11 and 12
 
@@ -99,17 +112,16 @@ required h k =
     let q = senderQuote k in
     if isBlock h (k .before) t then t .price else if senderSide k == theBid then q .bid else q .offer
 
--- ---- the table
+-- ---- the table: document 01's rows in their order, and document 02's 14, "judged after 9 and before 11"
 
-unfoldable pub reason : Header → Case → ℕ
-reason h k =
+abbrev pub reasonRows : Header → Case → List Row
+reasonRows h k =
     let c = satisfaction (k .claim) in
     let t = trade (k .trade) in
     let side = senderSide k in
     let excusing : ℕ = if side == theBid then sell else buy in  -- "sell for a bid, buy for an offer"
     let initiated = not (t .initiator == 0) in
-    firstOf
-    (10 when side == neither
+    10 when side == neither
     ¦ 2 when hadSent (c .sender) (t .series) excusing (k .trade .time) (k .before)
     ¦ 3 when nonFirm (c .sender) (k .before)
     ¦ 4 when not initiated && nonFirm (h .home) (k .before)
@@ -118,7 +130,12 @@ reason h k =
     ¦ 7 when t .complex == complexTrade
     ¦ 8 when not initiated && lateBy (timeToClaim h (k .trade)) (k .trade) (k .claim)
     ¦ 9 when initiated && lateBy threeMinutes (k .trade) (k .claim)
+    ¦ 14 when any (namesInTime h (k .number) (k .claim)) (k .day)
     ¦ 11 when c .price == t .price && not (isBlock h (k .before) t)
     ¦ 12 when not (c .price == required h k)
     ¦ 13 when customers k == 0
-    ¦ [])
+    ¦ []
+
+-- "first that holds"
+unfoldable pub reason : Header → Case → ℕ
+reason h k = firstOf (reasonRows h k)

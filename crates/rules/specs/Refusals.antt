@@ -26,7 +26,8 @@ abbrev pub quoteUnfit : ℕ
 quoteUnfit = 6
 
 -- "unknown trade or sent order, a second response, a fill above the order, a second Satisfaction Order of one exchange for one trade";
--- document 02, a: "a second kind 9"
+-- document 02, a: "a second kind 9"; document 02, b: "an unknown Satisfaction Order, a trade without initiator, a named exchange that
+-- is not the initiator, or a claim already cancelled"
 abbrev pub doesNotBelong : ℕ
 doesNotBelong = 7
 

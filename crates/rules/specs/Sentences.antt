@@ -1,6 +1,6 @@
 -- The papers' sentences about one named input, a row each: what the definitions say beside what the sentence says.
 -- proofs/Sentences.antt shows that each row's two sides are the same.
-use Prim.Native.Nat.{ℕ}
+use Prim.Native.Nat.{ℕ, _-_}
 use mathlib.Core.List.{List, [], _∷_, _++_}
 use lib.ListN.{take, drop, replicate}
 use Rattle.rules.specs.Basics.{Answer, refused, ok}
@@ -11,7 +11,7 @@ use Rattle.rules.specs.Due.{lines, ofTrade, claimsOf, due}
 use Rattle.rules.specs.OwnSheet.{ownSheet}
 use Rattle.rules.specs.SheetCheck.{checkSheet}
 use Rattle.rules.specs.PrintedDay.{firstLine, printedDay, ascii}
-use Rattle.rules.specs.Examples.{Example, example, written, bids, trades, claims, prints, only, dayD}
+use Rattle.rules.specs.Examples.{Example, example, theClose, written, bids, trades, claims, prints, only, dayD}
 
 -- a refusal as its number and place, anything else as nothing
 abbrev pub refusal : {A : Type 0} → Answer A → List ℕ
@@ -46,6 +46,30 @@ tradedThenClosing size = twoBids (trades 0 100 size 0 ∷ closes ∷ twoClaims)
 
 abbrev pub closingThenTraded : ℕ → List (List ℕ)
 closingThenTraded size = twoBids (closes ∷ trades 0 100 size 0 ∷ twoClaims)
+
+-- ---- document 02, b. The same two bids; at the time t home trades 30 at 100, which exchange 4 started, and each of the two claims 30 at
+-- once. So many milliseconds later the first claim is cancelled and exchange 4 named.
+
+abbrev pub startedByFour : ℕ → List ℕ
+startedByFour t = 3 ∷ t ∷ 0 ∷ 100 ∷ 30 ∷ 0 ∷ 0 ∷ 4 ∷ 0 ∷ []
+
+-- Satisfaction Order n is cancelled, and exchange x named
+abbrev pub cancels : ℕ → ℕ → ℕ → List ℕ
+cancels elapsed n x = 8 ∷ elapsed ∷ n ∷ x ∷ []
+
+abbrev pub claimedThen : ℕ → List (List ℕ) → List (List ℕ)
+claimedThen t more = twoBids (startedByFour t ∷ twoClaims ++ more)
+
+abbrev pub cancelledAfter : ℕ → ℕ → List (List ℕ)
+cancelledAfter t elapsed = claimedThen t (cancels elapsed 0 4 ∷ [])
+
+-- exchange 2 claims at a price, so long after the trade, and the claim is cancelled at once
+abbrev pub claimedAt : ℕ → ℕ → List (List ℕ)
+claimedAt elapsed price = twoBids (startedByFour 0 ∷ claims elapsed 2 price 30 ∷ cancels 0 0 4 ∷ [])
+
+-- exchange 2 bids 110 without customer contracts and claims at once, and the claim is cancelled
+abbrev pub claimedForNobody : List (List ℕ)
+claimedForNobody = (1 ∷ 0 ∷ 2 ∷ 0 ∷ 110 ∷ 30 ∷ 0 ∷ 0 ∷ 0 ∷ 0 ∷ []) ∷ startedByFour 0 ∷ claims 0 2 110 30 ∷ cancels 0 0 4 ∷ []
 
 -- the claims of trade 0, and its due total
 abbrev pub claimed : Answer Journal → List ℕ
@@ -85,7 +109,34 @@ sentences =
     ∷ example 22 (printedDay (headerD ++ closes)) firstLine
     -- "a second kind 9 is 7"
     ∷ example 23 (refusal (journal (headerD ++ closes ++ closes))) (7 ∷ 12 ∷ [])
-    -- kinds 8 and 10 are unknown
-    ∷ example 24 (refusal (journal (headerD ++ (8 ∷ 0 ∷ [])))) (4 ∷ 10 ∷ [])
+    -- kinds 0 and 10 are unknown
+    ∷ example 24 (refusal (journal (headerD ++ (0 ∷ 0 ∷ [])))) (4 ∷ 10 ∷ [])
     ∷ example 25 (refusal (journal (headerD ++ (10 ∷ 0 ∷ [])))) (4 ∷ 10 ∷ [])
+    -- "up to and including 180,000 ms after receiving it"; "with claim 0", and due totals follow; "a late one cancels and changes nothing"
+    ∷ prints 26 "event what a b c\n2 T 0 2 0\n3 F 14 0 30\n4 F 0 30 0\n" (cancelledAfter 0 180_000)
+    ∷ example 27 (claimed (journal (written (cancelledAfter 0 180_000)))) (0 ∷ 30 ∷ 30 ∷ [])
+    ∷ prints 28 "event what a b c\n2 T 0 2 0\n3 F 0 15 15\n4 F 0 15 15\n" (cancelledAfter 0 180_001)
+    ∷ example 29 (claimed (journal (written (cancelledAfter 0 180_001)))) (30 ∷ 30 ∷ 30 ∷ [])
+    -- "or 60,000 if we received it at or after close less 300,000"
+    ∷ prints 30 "event what a b c\n2 T 0 2 0\n3 F 14 0 30\n4 F 0 30 0\n" (cancelledAfter (theClose - 300_000) 60_000)
+    ∷ prints 31 "event what a b c\n2 T 0 2 0\n3 F 0 15 15\n4 F 0 15 15\n" (cancelledAfter (theClose - 300_000) 60_001)
+    ∷ prints 32 "event what a b c\n2 T 0 2 0\n3 F 14 0 30\n4 F 0 30 0\n" (cancelledAfter (theClose - 300_001) 60_001)
+    -- "judged after 9 and before 11": 9 stays; 11, 12 and 13 give way
+    ∷ prints 33 "event what a b c\n2 T 0 2 0\n3 F 9 0 30\n" (claimedAt 180_001 110)
+    ∷ prints 34 "event what a b c\n2 T 0 2 0\n3 F 14 0 30\n" (claimedAt 180_000 100)
+    ∷ prints 35 "event what a b c\n2 T 0 2 0\n3 F 14 0 30\n" (claimedAt 180_000 111)
+    ∷ prints 36 "event what a b c\n1 T 0 1 0\n2 F 14 0 30\n" claimedForNobody
+    -- "a claim already cancelled is 7", in time or late
+    ∷ example 37 (refusal (journal (written (claimedThen 0 (cancels 0 0 4 ∷ cancels 0 0 4 ∷ []))))) (7 ∷ 59 ∷ [])
+    ∷ example 38 (refusal (journal (written (claimedThen 0 (cancels 180_001 0 4 ∷ cancels 0 0 4 ∷ []))))) (7 ∷ 61 ∷ [])
+    -- "an unknown Satisfaction Order"; "a named exchange that is not the initiator", home among them; "a trade without initiator"
+    ∷ example 39 (refusal (journal (written (claimedThen 0 (cancels 0 2 4 ∷ []))))) (7 ∷ 55 ∷ [])
+    ∷ example 40 (refusal (journal (written (claimedThen 0 (cancels 0 0 3 ∷ []))))) (7 ∷ 55 ∷ [])
+    ∷ example 41 (refusal (journal (written (claimedThen 0 (cancels 0 0 1 ∷ []))))) (7 ∷ 55 ∷ [])
+    ∷ example 42 (refusal (journal (written (twoBids (trades 0 100 30 0 ∷ twoClaims ++ (cancels 0 0 4 ∷ [])))))) (7 ∷ 55 ∷ [])
+    -- an exchange named that is none is 5
+    ∷ example 43 (refusal (journal (written (claimedThen 0 (cancels 0 0 0 ∷ []))))) (5 ∷ 55 ∷ [])
+    ∷ example 44 (refusal (journal (written (claimedThen 0 (cancels 0 0 5 ∷ []))))) (5 ∷ 55 ∷ [])
+    -- 5 before 7
+    ∷ example 45 (refusal (journal (written (claimedThen 0 (cancels 0 2 0 ∷ []))))) (5 ∷ 55 ∷ [])
     ∷ []

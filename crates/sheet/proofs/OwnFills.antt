@@ -78,7 +78,7 @@ trade-line-at cl m k y h = at-below (λ i. table.lineAt cl (numberAt cl m i)) _ 
 module _ (j : Journal) (tr cl : List ℕ) (trades n : ℕ) (b : Books j tr cl trades n) where
   pub known-in-books : (l : Line) → List·Memᴰ l (lines j) → LineKnown (j .header) (j .history) l
   unfolding lines
-  known-in-books l m = lines-known (b .arrived) l m
+  known-in-books l m = lines-known (b .arrived) (j .history) l m
 
   module _ (m : ℕ) (hm : m < 128) where
     by-trade : tradeLines cl m (manyOf cl m) ≡ ofTrade m (lines j)

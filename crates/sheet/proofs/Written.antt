@@ -165,7 +165,7 @@ module _ (j : Journal) (tr cl : List ℕ) (trades n : ℕ) (b : Books j tr cl tr
 
   many-lines : n ≡ length (lines j)
   unfolding lines
-  many-lines = b .lined .numbered ∙ sym (lines-count (j .header) (j .history))
+  many-lines = b .lined .numbered ∙ sym (lines-count (j .header) (j .history) (j .history))
 
   line-is : (i : ℕ) → i < n → lineAt (lines j) i ≡ table.lineAt cl i
   line-is i h = ap (λ (ls : List Line). lineAt ls i) (sym lines-are) ∙ line-from cl n i h

@@ -6,7 +6,7 @@ use Prim.Native.Nat.{ℕ, _<_, _≤_}
 use native.Mathlib.Omega.{arith}
 use lib.ListN.{replicate}
 use Rattle.rules.specs.Header.{Header}
-use Rattle.rules.specs.Record.{tradeKind, sentKind, responseKind, satisfactionKind}
+use Rattle.rules.specs.Record.{tradeKind, sentKind, responseKind, satisfactionKind, namingKind}
 use Rattle.rows.specs.Rows.{word, RecOk}
 use Rattle.rows.specs.declared.Rec.{Rec}
 use Rattle.quotes.specs.Tables.{QuotesStep, StatusesStep}
@@ -17,7 +17,7 @@ use Rattle.excuses.specs.Excuses.{ExcusesStep}
 use Rattle.excuses.proofs.Steps as excuse-laws
 use Rattle.trades.specs.Trades.{TradesStep}
 use Rattle.trades.proofs.Trades as trade-laws
-use Rattle.claims.specs.Lines.{manyOf, ClaimsStep}
+use Rattle.claims.specs.Lines.{manyOf, Cancellable, ClaimsStep}
 use Rattle.claims.proofs.Lines as line-laws
 use Rattle.claims.proofs.Due as due-laws
 use Rattle.rows.specs.declared.Numbers.{Numbers}
@@ -34,12 +34,12 @@ all-kept r home exchanges close sizes block q st t tr sn cl c closing q2 st2 t2 
     record {
       orderly = record { chains = by-order .chains; filing = by-claim .filing; few = by-trade .few };
       so =
-          λ h e past is ec rd closes held. record {
+          λ h e past arrived is ec rd closes held. record {
             quoted = by-quote .so e past rd (held .quoted);
             statuses = by-status .so e past rd (held .statuses);
             excused = by-order .so e past rd (held .excused);
             traded = by-trade .so h e past is rd (found .so h e past (is .exchanges) rd (held .quoted)) closes (held .quoted) (held .statuses) (held .excused) (held .traded);
-            lined = by-claim .so h sizes e past is ec rd (held .traded) (held .lined);
+            lined = by-claim .so h sizes e past arrived is ec rd (held .traded) (held .lined);
           };
     }
 
@@ -51,6 +51,8 @@ pub record Room (r : Rec) (cl : List ℕ) (c : Numbers) : Type 0 where
   pub line : r .kind ≡ satisfactionKind → c .lines < 512
   pub known : r .kind ≡ satisfactionKind → word r 0 < c .trades
   pub eighth : r .kind ≡ satisfactionKind → manyOf cl (word r 0) < 8
+  pub cancelled : r .kind ≡ namingKind → word r 0 < c .lines
+  pub cancellable : r .kind ≡ namingKind → Cancellable cl (word r 0)
 
 pub record-placed : (exchanges home : ℕ) (r : Rec) (cl : List ℕ) (c : Numbers) → RecOk exchanges home r → exchanges ≤ 8 → Room r cl c
     → Placed r cl exchanges c
@@ -59,7 +61,7 @@ record-placed exchanges home r cl c ok few room =
       quote = quote-laws.record-placed exchanges home r ok few;
       order = excuse-laws.record-placed exchanges home (c .orders) r ok few (room .order) (room .response);
       trade = trade-laws.record-placed exchanges home (c .trades) r ok few (room .trade);
-      claim = line-laws.record-placed exchanges home r cl (c .trades) (c .lines) ok (room .known) (room .eighth) (room .line);
+      claim = line-laws.record-placed exchanges home r cl (c .trades) (c .lines) ok (room .known) (room .eighth) (room .line) (room .cancelled) (room .cancellable);
     }
 
 -- the start

@@ -7,6 +7,7 @@ use Rattle.rules.specs.Limits.{mostTrades}
 use Rattle.rules.specs.Header.{Header}
 use Rattle.rules.specs.Record.{Event}
 use Rattle.rules.specs.Journal.{History, closingBegun}
+use Rattle.rules.proofs.Journals.{Arrived}
 use Rattle.rows.specs.Rows.{Reads}
 use Rattle.rows.specs.declared.Rec.{Rec}
 use Rattle.quotes.specs.Tables as quotes
@@ -39,5 +40,5 @@ pub record Placed (r : Rec) (cl : List ℕ) (exchanges : ℕ) (c : Numbers) : Ty
 pub record TablesStep (r : Rec) (home exchanges close : ℕ) (sizes : List ℕ) (q st t tr sn cl : List ℕ) (c : Numbers) (closing : Bool)
     (q2 st2 t2 ch2 tr2 sn2 cl2 : List ℕ) (c2 : Numbers) : Type 0 where
   pub orderly : Orderly t2 ch2 cl2 c2
-  pub so : (h : Header) (e : Event) (past : History) → Heads h exchanges home sizes → h .close ≡ close → Reads e r → closing ≡ closingBegun past
+  pub so : (h : Header) (e : Event) (past : History) → Arrived h past → Heads h exchanges home sizes → h .close ≡ close → Reads e r → closing ≡ closingBegun past
       → Holds h past q st t tr sn cl c → Holds h (e ∷ past) q2 st2 t2 tr2 sn2 cl2 c2

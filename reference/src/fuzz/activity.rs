@@ -12,11 +12,23 @@ const LAST_TIME: u32 = 86_399_999;
 #[derive(Clone, Copy)]
 struct Made {
     price: u32,
+    /// 0 where there is none.
+    initiator: u32,
     report: u32,
     /// Bid and offer of each exchange at the trade.
     shown: [[u32; 2]; 9],
     /// One bit for each exchange that has sent a Satisfaction Order.
     asked: u32,
+}
+
+/// A Satisfaction Order as its cancellation needs it.
+#[derive(Clone, Copy)]
+pub(super) struct Asked {
+    pub from: u32,
+    pub received: u32,
+    /// Of its trade; 0 where there is none.
+    pub initiator: u32,
+    pub cancelled: bool,
 }
 
 struct Sent {
@@ -26,7 +38,7 @@ struct Sent {
 
 /// What away exchanges hold for customers and ask for.
 #[derive(Clone, Copy)]
-enum Held {
+pub(super) enum Held {
     Anything,
     /// The same or a multiple of the same, so that shares come out level.
     Even(u32),
@@ -50,17 +62,21 @@ pub struct Activity<'c> {
     closing_window: ClosingWindow,
     pub home: u32,
     pub exchanges: u32,
-    close: u32,
+    pub(super) close: u32,
     pub time: u32,
     /// The series that are traded.
     pub series: Vec<u32>,
     pub level: u32,
+    /// The away exchange with the least automatic size.
+    pub(super) least: u32,
+    /// How many of a hundred trades come from another exchange's linkage order.
+    pub initiated: usize,
     /// Bid and offer by series and exchange.
     shown: [[[u32; 2]; 9]; 32],
     statuses: [u32; 9],
     trades: Vec<Made>,
     sent: Vec<Sent>,
-    pub satisfactions: usize,
+    pub(super) asked: Vec<Asked>,
 }
 
 /// The number as stored, of any size.
@@ -68,6 +84,11 @@ pub fn put_number(bytes: &mut Vec<u8>, number: u32) {
     let mut stored = [0; 5];
     let end = put(&mut stored, 0, number);
     bytes.extend_from_slice(&stored[..end]);
+}
+
+fn away_with_least_size(header: &[u32; Header::NUMBERS]) -> u32 {
+    let away = (1..=header[1]).filter(|&exchange| exchange != header[0]);
+    away.min_by_key(|&exchange| header[1 + 2 * exchange as usize]).expect("there are two exchanges or more")
 }
 
 impl<'c> Activity<'c> {
@@ -89,11 +110,13 @@ impl<'c> Activity<'c> {
             time: 0,
             series,
             level,
+            least: away_with_least_size(header),
+            initiated: 25,
             shown: [[[0; 2]; 9]; 32],
             statuses: [0; 9],
             trades: Vec::new(),
             sent: Vec::new(),
-            satisfactions: 0,
+            asked: Vec::new(),
         }
     }
 
@@ -105,8 +128,12 @@ impl<'c> Activity<'c> {
         self.sent.len()
     }
 
+    pub fn satisfactions(&self) -> usize {
+        self.asked.len()
+    }
+
     /// Adds a record, or one with a fault where one is wanted; before it the closing record where its turn has come.
-    fn add(&mut self, kind: u32, milliseconds: u32, fields: &[u32]) {
+    pub(super) fn add(&mut self, kind: u32, milliseconds: u32, fields: &[u32]) {
         let milliseconds = self.close_in_turn(milliseconds);
         if self.until_fault == Some(0) {
             super::faults::add_faulty(self, kind, milliseconds, fields);
@@ -162,7 +189,7 @@ impl<'c> Activity<'c> {
     }
 
     /// Milliseconds until a time, or a pause where it has passed or lies beyond the day.
-    fn until(&mut self, time: u32) -> u32 {
+    pub(super) fn until(&mut self, time: u32) -> u32 {
         if (self.time..=LAST_TIME).contains(&time) { time - self.time } else { self.pause() }
     }
 
@@ -174,7 +201,7 @@ impl<'c> Activity<'c> {
         (1..=self.exchanges).filter(|&exchange| exchange != self.home).collect()
     }
 
-    fn a_series(&mut self) -> u32 {
+    pub(super) fn a_series(&mut self) -> u32 {
         let at = self.chance.below(self.series.len());
         self.series[at]
     }
@@ -277,16 +304,16 @@ impl<'c> Activity<'c> {
     }
 
     /// A trade reported after a delay, made at a time or after a pause.
-    fn trade_at(&mut self, milliseconds: u32, series: u32, price: u32, size: u32, delay: u32) {
+    pub(super) fn trade_at(&mut self, milliseconds: u32, series: u32, price: u32, size: u32, delay: u32) {
         let form = self.chance.weighted(&[(5, 0), (2, 1), (2, 2)]);
         let complex = self.chance.one_in(12) as u32;
-        let initiator = if self.chance.one_in(4) { self.away() } else { 0 };
+        let initiator = if self.chance.percent(self.initiated) { self.away() } else { 0 };
         let report = self.time.saturating_add(milliseconds + delay);
         self.add(3, milliseconds, &[series, price, size, form, complex, initiator, delay]);
-        self.trades.push(Made { price, report, shown: self.shown[series as usize], asked: 0 });
+        self.trades.push(Made { price, initiator, report, shown: self.shown[series as usize], asked: 0 });
     }
 
-    fn delay(&mut self) -> u32 {
+    pub(super) fn delay(&mut self) -> u32 {
         self.chance.weighted(&[(4, 0), (2, 1_000), (1, 90_000), (1, 599_999), (1, 600_000)])
     }
 
@@ -331,7 +358,7 @@ impl<'c> Activity<'c> {
         self.trade_through(series, Held::AroundTen);
     }
 
-    fn mostly_all_firm(&mut self) {
+    pub(super) fn mostly_all_firm(&mut self) {
         if self.chance.percent(75) {
             self.all_firm();
         } else {
@@ -357,6 +384,7 @@ impl<'c> Activity<'c> {
             self.close_after(records);
         }
         self.trade_at(milliseconds, series, price, size, delay);
+        let first = self.asked.len();
         for sender in senders {
             let size = match held {
                 Held::Anything => values::contracts(self.chance),
@@ -367,10 +395,13 @@ impl<'c> Activity<'c> {
                 self.satisfaction_of(size, self.trades.len() - 1, sender);
             }
         }
+        if self.chance.one_in(2) {
+            self.cancel_some_from(first);
+        }
     }
 
     /// Some away exchanges show bids above a price or offers below it; answers which.
-    fn quote_better(&mut self, series: u32, price: u32, held: Held) -> Vec<u32> {
+    pub(super) fn quote_better(&mut self, series: u32, price: u32, held: Held) -> Vec<u32> {
         let bids = self.chance.one_in(2);
         let mut senders = self.away_exchanges();
         self.chance.shuffle(&mut senders);
@@ -404,9 +435,11 @@ impl<'c> Activity<'c> {
         let milliseconds = self.until(report.saturating_sub(delay));
         let size = values::contracts(self.chance);
         self.trade_at(milliseconds, series, price, size, delay);
+        let first = self.asked.len();
         for exchange in self.away_exchanges() {
             self.satisfaction(self.trades.len() - 1, exchange);
         }
+        self.cancel_some_from(first);
     }
 
     /// A trade whose Satisfaction Order any exchange may still send, if there is one.
@@ -425,8 +458,19 @@ impl<'c> Activity<'c> {
         self.satisfaction_of(size, trade, from);
     }
 
-    /// A Satisfaction Order of this size, unless the exchange has sent one for the trade.
+    /// A Satisfaction Order of this size, at times around the last timely moment.
     fn satisfaction_of(&mut self, size: u32, trade: usize, from: u32) {
+        let milliseconds = if self.chance.percent(15) {
+            let allowed = self.chance.pick(&[60_000, 60_001, 180_000, 180_001]);
+            self.until(self.trades[trade].report.saturating_add(allowed))
+        } else {
+            self.pause()
+        };
+        self.satisfaction_after(milliseconds, size, trade, from);
+    }
+
+    /// A Satisfaction Order after so long, unless the exchange has sent one for the trade.
+    pub(super) fn satisfaction_after(&mut self, milliseconds: u32, size: u32, trade: usize, from: u32) {
         let made = self.trades[trade];
         if made.asked >> from & 1 == 1 {
             return;
@@ -435,15 +479,9 @@ impl<'c> Activity<'c> {
         let through = if bid > made.price || offer == 0 { bid } else { offer };
         let shift = self.chance.between(0, 2);
         let price = self.chance.weighted(&[(14, through), (3, made.price), (2, through + shift)]);
-        let milliseconds = if self.chance.percent(15) {
-            let allowed = self.chance.pick(&[60_000, 60_001, 180_000, 180_001]);
-            self.until(made.report.saturating_add(allowed))
-        } else {
-            self.pause()
-        };
         self.add(7, milliseconds, &[trade as u32, from, price.clamp(1, 1_000_000), size]);
         self.trades[trade].asked |= 1 << from;
-        self.satisfactions += 1;
+        self.asked.push(Asked { from, received: self.time, initiator: made.initiator, cancelled: false });
     }
 
     /// An order with the price that the receiver shows, or one near it.
@@ -552,6 +590,8 @@ impl<'c> Activity<'c> {
             (5, |day| day.shared_trade()),
             (1, |day| day.trade_near_close()),
             (3, |day| day.trade_after_an_order()),
+            (5, |day| day.cancellation()),
+            (1, |day| day.cancellations_near_close()),
         ]);
         happens(self);
     }

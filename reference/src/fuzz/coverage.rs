@@ -1,13 +1,15 @@
 //! What the questions of a run have reached, by the right answers.
 
+use super::cancelled::{self, Cancelled};
 use super::sheets::{accepted_header, desk_after};
-use crate::ask::{Answer, Question, op};
+use crate::ask::{Answer, Question, op, word_at};
 use crate::claims::{Desk, Line, Trade, reason};
 use crate::event::{HomeTrade, Order, Satisfaction};
 use crate::header::Header;
 use crate::journal::{Journal, Moment, Watcher, open, walk};
 use crate::record::{Record, kind};
 use crate::sheet;
+use crate::time::Time;
 use std::cmp::Ordering;
 use std::collections::BTreeMap;
 use std::ops::RangeInclusive;
@@ -28,6 +30,11 @@ const WANTED: &str = "
     closing record read alone, unreadable|closing record read alone, past the day
     closing record written alone|closing record written alone, more than its own given
     closing record written alone, past the day
+    cancellation read alone|cancellation read alone, more than its own given
+    cancellation read alone, unreadable|cancellation read alone, past the day
+    cancellation read alone, field out of range
+    cancellation written alone|cancellation written alone, more than its own given
+    cancellation written alone, past the day|cancellation written alone, field out of range
     claim at the close limited to ten|claim at the close of ten as it is|claim at the close below ten
     claim above ten before the closing record|claim above ten before the closing record, asked after it
     trade at the close, limited claims shared out|trade at the close, limited claims all due
@@ -40,10 +47,11 @@ fn wanted() -> impl Iterator<Item = String> {
         numbers.into_iter().map(move |number| format!("{what} {number}"))
     };
     numbered("answer", &[0..=9, 20..=22, 24..=26, 98..=99])
-        .chain(numbered("F reason", &[0..=0, 2..=13]))
+        .chain(numbered("F reason", &[0..=0, 2..=14]))
         .chain(numbered("S", &[0..=2]))
         .chain(numbered("T through", &[0..=7]))
         .chain(WANTED.split(['|', '\n']).map(|what| what.trim().to_string()))
+        .chain(cancelled::wanted())
         .filter(|what| !what.is_empty())
 }
 
@@ -119,6 +127,9 @@ impl Coverage {
                 None => self.note_refused(question, answer),
             }
         }
+        if question.op == op::CHECK {
+            self.note_sheet(question, answer);
+        }
         match (question.op, answer.no) {
             (op::CHECK, 0) => self.note_good_sheet(question),
             (op::CHECK, 24) => self.note_fill_above_claim(question, answer),
@@ -143,37 +154,62 @@ impl Coverage {
         }
     }
 
-    /// A journal refused at its closing record.
+    /// A journal refused at its closing record or at a cancellation.
     fn note_refused(&mut self, question: &Question, answer: &Answer) {
-        if question.a.get(answer.place as usize) == Some(&(kind::CLOSING_WINDOW as u8)) {
-            match answer.no {
-                5 => self.count("closing record refused, past the day"),
-                7 => self.count("closing record refused, a second"),
-                _ => {}
+        let place = answer.place as usize;
+        match (question.a.get(place).map(|&byte| byte as u32), answer.no) {
+            (Some(kind::CLOSING_WINDOW), 5) => self.count("closing record refused, past the day"),
+            (Some(kind::CLOSING_WINDOW), 7) => self.count("closing record refused, a second"),
+            (Some(kind::CANCELLATION), 5 | 7) => {
+                if let Some(what) = cancelled::reached_by_refusal(&question.a, answer.no, place) {
+                    self.count(what);
+                }
             }
+            _ => {}
         }
     }
 
-    /// A closing record alone, read or written.
+    /// A closing record or a cancellation alone, read or written.
     fn note_record_alone(&mut self, question: &Question, answer: &Answer) {
-        const KIND: usize = 4 * (Header::NUMBERS + 1);
-        const FIELDS: usize = KIND + 8;
-        let closing = kind::CLOSING_WINDOW.to_le_bytes();
-        let (what, beyond) = if question.op == op::READ_RECORD && question.b.first() == Some(&closing[0]) {
-            ("read", answer.bytes.first().is_some_and(|&used| question.b.len() > used as usize))
-        } else if question.op == op::WRITE_RECORD && question.a.get(KIND..KIND + 4) == Some(&closing) {
-            ("written", question.a[FIELDS..].iter().any(|&byte| byte != 0))
-        } else {
+        if answer.no == 98 {
             return;
-        };
-        let how = match answer.no {
-            0 if beyond => ", more than its own given",
-            0 => "",
-            2 => ", unreadable",
-            5 => ", past the day",
+        }
+        let words = (4 * Header::NUMBERS..question.a.len()).step_by(4).map(|at| word_at(&question.a, at));
+        let words: Vec<u32> = words.collect();
+        let is_read = question.op == op::READ_RECORD;
+        let numbers = if is_read { cancelled::numbers(&question.b) } else { words[1..].to_vec() };
+        let (kind, own) = match numbers.first() {
+            Some(&kind::CLOSING_WINDOW) => ("closing record", 2),
+            Some(&kind::CANCELLATION) => ("cancellation", 4),
             _ => return,
         };
-        self.count(format!("closing record {what} alone{how}"));
+        let past_the_day = || words[0] as u64 + numbers[1] as u64 > Time::LAST as u64;
+        let beyond = || match is_read {
+            true => question.b.len() > answer.bytes[0] as usize,
+            false => numbers[own..].iter().any(|&field| field != 0),
+        };
+        let how = match answer.no {
+            0 if beyond() => ", more than its own given",
+            0 => "",
+            2 => ", unreadable",
+            5 if past_the_day() => ", past the day",
+            5 => ", field out of range",
+            _ => return,
+        };
+        let what = if is_read { "read" } else { "written" };
+        self.count(format!("{kind} {what} alone{how}"));
+    }
+
+    /// What a sheet makes of the cancellations.
+    fn note_sheet(&mut self, question: &Question, answer: &Answer) {
+        let Some(header) = accepted_header(&question.a) else {
+            return;
+        };
+        if let Some(cancelled) = Cancelled::of(&header, &question.a) {
+            for what in cancelled.reached_by_sheet(&question.b, answer.no, answer.place as usize) {
+                self.count(what);
+            }
+        }
     }
 
     fn note_journal(&mut self, header: &Header, journal: &[u8]) {
@@ -191,6 +227,9 @@ impl Coverage {
         ];
         for (_, limit) in limits.into_iter().filter(|(reached, _)| *reached) {
             self.count(limit);
+        }
+        for what in Cancelled::of(header, journal).iter().flat_map(Cancelled::reached) {
+            self.count(what);
         }
         self.note_trades(&desk);
         for trade in &desk.trades {
@@ -279,7 +318,7 @@ impl Coverage {
     /// Prints what was reached how often, beside the answers' numbers, and answers what was not.
     pub fn print(&self) -> Vec<String> {
         for (what, count) in self.0.iter().filter(|(what, _)| !what.starts_with("answer")) {
-            println!("{what:57} {count:9}");
+            println!("{what:60} {count:9}");
         }
         wanted().filter(|what| !self.0.contains_key(what)).collect()
     }

@@ -7,7 +7,7 @@ use crate::record::kind;
 
 /// Adds the record with one thing wrong, or what is wrong only beside the records before it.
 pub fn add_faulty(day: &mut Activity, kind: u32, milliseconds: u32, fields: &[u32]) {
-    match day.chance.below(9) {
+    match day.chance.below(11) {
         0 => {
             let unknown = values::unknown_kind(day.chance);
             day.add_as_is(unknown, milliseconds, fields);
@@ -20,6 +20,7 @@ pub fn add_faulty(day: &mut Activity, kind: u32, milliseconds: u32, fields: &[u3
         3 => add_unsound_quote(day, milliseconds),
         4 => add_unknown_or_twice(day, milliseconds),
         5 => add_faulty_closing(day, milliseconds),
+        6 | 7 => add_faulty_cancellation(day),
         _ => {
             let mut fields = fields.to_vec();
             let field = day.chance.below(fields.len());
@@ -56,6 +57,70 @@ fn add_faulty_closing(day: &mut Activity, milliseconds: u32) {
             day.add_as_is(kind::CLOSING_WINDOW, milliseconds, &[next]);
         }
         _ => day.add_as_is(kind::CLOSING_WINDOW, milliseconds, &[]),
+    }
+}
+
+/// A cancellation with something wrong, of an order that could be cancelled or of one that could not; what leads up to
+/// it goes well.
+pub fn add_faulty_cancellation(day: &mut Activity) {
+    day.until_fault = None;
+    let (order, initiator) = an_order_to_cancel(day);
+    let milliseconds = day.chance.pick(&[0, 0, 1, 60_001, 180_001]);
+    match day.chance.below(12) {
+        0..=2 => {
+            let time = day.time.saturating_add(milliseconds);
+            day.cancel_at(order, time);
+            if day.chance.one_in(2) {
+                day.something_without_numbers();
+            }
+            let again = day.chance.pick(&[0, 0, 1, 60_001, 180_001]);
+            day.add_as_is(kind::CANCELLATION, again, &[order as u32, initiator]);
+        }
+        3..=6 => {
+            let (order, named) = not_to_cancel(day, order, initiator);
+            day.add_as_is(kind::CANCELLATION, milliseconds, &[order, named]);
+        }
+        7..=9 => {
+            let beyond = around_the_days_end(day);
+            day.add_as_is(kind::CANCELLATION, beyond, &[order as u32, initiator]);
+        }
+        10 => add_with_a_long_number(day, kind::CANCELLATION, milliseconds, &[order as u32, initiator]),
+        _ => {
+            let next = day.chance.between(0, 12);
+            day.add_as_is(kind::CANCELLATION, milliseconds, &[order as u32, initiator, next]);
+            let cut_off = day.bytes.len() - day.chance.below(4);
+            day.bytes.truncate(cut_off);
+        }
+    }
+}
+
+/// Where no order is open to cancellation, one is sent for a trade with an initiator; answers the latter too.
+fn an_order_to_cancel(day: &mut Activity) -> (usize, u32) {
+    if day.open_to_cancellation().is_empty() || day.chance.one_in(4) {
+        day.initiated = 100;
+        day.trade();
+        let away = day.away();
+        day.satisfaction(day.trades() - 1, away);
+    }
+    let open = day.open_to_cancellation();
+    let order = day.chance.pick(&open);
+    (order, day.asked[order].initiator)
+}
+
+/// An order and an exchange that do not fit: mostly one of them is wrong, at times both.
+fn not_to_cancel(day: &mut Activity, order: usize, initiator: u32) -> (u32, u32) {
+    let count = day.satisfactions() as u32;
+    let unknown = day.chance.pick(&[count, count, count, count + 1, 512, 268_435_455]);
+    let closed = (0..day.asked.len()).filter(|&order| day.asked[order].initiator == 0 || day.asked[order].cancelled);
+    let closed: Vec<usize> = closed.chain([order]).collect();
+    let (closed, away) = (day.chance.pick(&closed), day.away());
+    let from = day.asked[order].from;
+    let another = day.chance.pick(&[day.home, from, from, away, away, 0, day.exchanges + 1]);
+    match day.chance.below(6) {
+        0 => (unknown, initiator),
+        1 | 2 => (closed as u32, day.asked[closed].initiator.max(1)),
+        3 => (day.chance.pick(&[unknown, closed as u32]), another),
+        _ => (order as u32, another),
     }
 }
 

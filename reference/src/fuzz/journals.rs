@@ -10,6 +10,7 @@ use crate::journal::Journal;
 enum Day {
     Usual,
     WithFault,
+    WithFaultyCancellation,
     Damaged,
     OnlyHeader,
     Noise,
@@ -21,7 +22,7 @@ enum Day {
     TooLong,
 }
 
-/// The closing record comes at any point of the day, or never.
+/// The closing record comes at any point of the day, or never; on some days most trades come from other exchanges.
 fn open<'c>(chance: &'c mut Chance, header: &[u32; Header::NUMBERS]) -> Activity<'c> {
     let mut day = Activity::open(chance, header);
     if day.chance.percent(60) {
@@ -29,6 +30,7 @@ fn open<'c>(chance: &'c mut Chance, header: &[u32; Header::NUMBERS]) -> Activity
         let records = day.chance.below(most);
         day.close_after(records);
     }
+    day.initiated = day.chance.pick(&[25, 80]);
     day
 }
 
@@ -37,15 +39,17 @@ pub fn journal_with_claims(chance: &mut Chance) -> Vec<u8> {
     if chance.one_in(3) {
         return journal(chance);
     }
-    let header = values::header(chance);
+    let header = if chance.one_in(4) { values::header_with_one_small_size(chance) } else { values::header(chance) };
     let trades = 1 + chance.below(4);
     let mut day = open(chance, &header);
+    day.initiated = 60;
     for _ in 0..trades {
         day.something();
-        if day.chance.one_in(2) {
-            day.trade_around_ten();
-        } else {
-            day.shared_trade();
+        match day.chance.below(12) {
+            0..=4 => day.trade_around_ten(),
+            5..=8 => day.shared_trade(),
+            9 | 10 => day.shared_but_for_one(),
+            _ => day.cancellations_near_close(),
         }
     }
     day.bytes
@@ -54,13 +58,14 @@ pub fn journal_with_claims(chance: &mut Chance) -> Vec<u8> {
 pub fn journal(chance: &mut Chance) -> Vec<u8> {
     let day = chance.weighted(&[
         (600, Day::Usual),
-        (170, Day::WithFault),
+        (180, Day::WithFault),
+        (60, Day::WithFaultyCancellation),
         (110, Day::Damaged),
-        (50, Day::OnlyHeader),
+        (60, Day::OnlyHeader),
         (20, Day::Noise),
         (6, Day::ManyTrades),
         (6, Day::ManySent),
-        (10, Day::ManySatisfactions),
+        (12, Day::ManySatisfactions),
         (4, Day::ManyRecords),
         (12, Day::Full),
         (6, Day::TooLong),
@@ -71,6 +76,7 @@ pub fn journal(chance: &mut Chance) -> Vec<u8> {
             let until = chance.below(30);
             usual(chance, Some(until))
         }
+        Day::WithFaultyCancellation => with_faulty_cancellation(chance),
         Day::Damaged => damaged(chance),
         Day::OnlyHeader => only_header(chance),
         Day::Noise => (0..chance.below(60)).map(|_| chance.byte()).collect(),
@@ -97,12 +103,24 @@ fn usual(chance: &mut Chance, until_fault: Option<usize>) -> Vec<u8> {
         day.move_on();
     }
     for _ in 0..steps {
-        if day.chance.one_in(12) {
-            day.trade_around_ten();
-        } else {
-            day.something();
+        match day.chance.below(24) {
+            0 | 1 => day.trade_around_ten(),
+            2 => day.cancellations_near_close(),
+            _ => day.something(),
         }
     }
+    day.bytes
+}
+
+/// Some records, then a cancellation with something wrong.
+fn with_faulty_cancellation(chance: &mut Chance) -> Vec<u8> {
+    let header = values::header(chance);
+    let steps = chance.below(15);
+    let mut day = open(chance, &header);
+    for _ in 0..steps {
+        day.something();
+    }
+    faults::add_faulty_cancellation(&mut day);
     day.bytes
 }
 
@@ -124,8 +142,10 @@ fn only_header(chance: &mut Chance) -> Vec<u8> {
     if chance.one_in(3) {
         faults::damage(chance, &mut bytes);
     }
-    if chance.one_in(3) {
+    if chance.one_in(2) {
         let records: &[&[u8]] = &[&[2, 0, 1, 0], &[9, 0], &[9, 0, 2, 0, 1, 0], &[9, 0, 9, 0], &[9, 0, 9], &[9]];
+        let cancellations: &[&[u8]] = &[&[8, 0, 0, 1], &[8, 1, 0, 2], &[8, 0, 9, 1], &[8, 0, 0, 0], &[8, 0, 0], &[8]];
+        let records = chance.pick(&[records, cancellations]);
         bytes.extend(chance.pick(records));
     }
     bytes
@@ -146,7 +166,7 @@ fn many(chance: &mut Chance, most: usize, count: fn(&Activity) -> usize, add: fn
     day.bytes
 }
 
-/// Around 512 Satisfaction Orders, the last perhaps for a trade that there is not.
+/// Around 512 Satisfaction Orders, the last of them perhaps cancelled, and one more for a trade that there is not.
 fn many_satisfactions(chance: &mut Chance) -> Vec<u8> {
     let mut header = values::header(chance);
     header[0] = chance.between(1, 8);
@@ -154,16 +174,20 @@ fn many_satisfactions(chance: &mut Chance) -> Vec<u8> {
     for size in &mut header[3..] {
         *size = 10;
     }
-    let wanted = 511 + chance.below(3);
+    let wanted = chance.pick(&[511, 512, 512, 513]);
     let mut day = open(chance, &header);
-    while day.satisfactions + 7 < wanted && day.trades() < 127 {
+    day.initiated = 80;
+    while day.satisfactions() + 7 < wanted && day.trades() < 127 {
         day.shared_trade();
     }
     for trade in (0..day.trades()).cycle().take(20 * 128) {
         let away = day.away();
-        if day.satisfactions < wanted {
+        if day.satisfactions() < wanted {
             day.satisfaction(trade, away);
         }
+    }
+    for _ in 0..2 {
+        day.cancel_some_from(500);
     }
     if day.chance.one_in(3) {
         let (trade, away) = (day.trades() as u32, day.away());

@@ -1,6 +1,8 @@
 //! Puts questions by seed to a program and holds its answers against ours.
 
 pub mod activity;
+mod cancelled;
+mod cancelling;
 pub mod chance;
 mod coverage;
 mod faults;

@@ -16,8 +16,8 @@ pub fn question(seed: u64, number: u64) -> Question {
         (22, op::CHECK),
         (8, op::TOTALS),
         (7, op::WRITE_HEADER),
-        (8, op::WRITE_RECORD),
-        (8, op::READ_RECORD),
+        (10, op::WRITE_RECORD),
+        (10, op::READ_RECORD),
         (6, op::REWRITE),
         (1, 0),
     ]);
@@ -41,7 +41,15 @@ fn cap(chance: &mut Chance, question: &Question) -> u32 {
     let some = chance.between(0, needed);
     let more = needed + chance.between(1, 100);
     chance
-        .weighted(&[(8, needed), (6, needed.saturating_sub(1)), (1, 0), (2, some), (3, more), (1, Question::MOST)])
+        .weighted(&[
+            (8, needed),
+            (6, needed.saturating_sub(1)),
+            (1, needed + 1),
+            (1, 0),
+            (2, some),
+            (3, more),
+            (1, Question::MOST),
+        ])
         .min(Question::MOST)
 }
 
@@ -82,8 +90,10 @@ fn read_record(chance: &mut Chance) -> Question {
     for &number in [record.kind, record.milliseconds].iter().chain(record.own_fields()) {
         put_number(&mut bytes, number);
     }
-    if chance.one_in(3) {
-        faults::damage(chance, &mut bytes);
+    match chance.below(9) {
+        0..=2 => faults::damage(chance, &mut bytes),
+        3 => bytes.extend((0..1 + chance.below(3)).map(|_| chance.byte())),
+        _ => {}
     }
     let mut numbers = header.to_vec();
     numbers.push(time);

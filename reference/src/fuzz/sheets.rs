@@ -1,6 +1,7 @@
 //! Sheets for a journal: our own, other good ones, and near misses of every kind.
 
 use super::activity::put_number;
+use super::cancelled::Cancelled;
 use super::chance::Chance;
 use super::faults;
 use crate::claims::{Desk, Trade, reason};
@@ -24,10 +25,15 @@ pub fn sheet(chance: &mut Chance, journal: &[u8]) -> Vec<u8> {
     if chance.one_in(8) {
         draft.lines = lines_with_another_limit(desk_after(&header, journal), chance.one_in(3));
     }
+    let mut misses = 65;
+    if let (true, Some(cancelled)) = (chance.one_in(2), Cancelled::of(&header, journal)) {
+        draft.take_cancellations_otherwise(chance, &cancelled);
+        misses = 25;
+    }
     if chance.percent(60) {
         draft.break_ties_otherwise(chance);
     }
-    if chance.percent(65) {
+    if chance.percent(misses) {
         for _ in 0..chance.weighted(&[(5, 1), (1, 2), (1, 3)]) {
             draft.miss(chance);
         }
@@ -85,6 +91,24 @@ impl Draft<'_> {
         self.lines[line] = [self.lines[line][0], filled, self.desk.lines[line].size.wrapping_sub(filled)];
     }
 
+    /// As if none was cancelled, or all in time: reason and fill, the fill alone, or what that leaves for the others. Or 14
+    /// stands for all that was cancelled, or what is left is shared otherwise.
+    fn take_cancellations_otherwise(&mut self, chance: &mut Chance, cancelled: &Cancelled) {
+        let otherwise = own_lines(if chance.percent(60) { &cancelled.without } else { &cancelled.with_late });
+        let how = chance.pick(&[0, 1, 2, 2, 2, 3, 4]);
+        for (order, other) in otherwise.into_iter().enumerate() {
+            match (how, cancelled.is_cancelled(order)) {
+                (0, _) => self.lines[order] = other,
+                (1, _) | (2, false) => self.set_fill(order, other[1]),
+                (3, true) => self.lines[order][0] = reason::INITIATOR_NAMED as u32,
+                _ => {}
+            }
+        }
+        if how == 4 {
+            self.share_otherwise(chance);
+        }
+    }
+
     /// Moves single contracts between lines of a trade that stand level, so that the sheet stays good.
     fn break_ties_otherwise(&mut self, chance: &mut Chance) {
         for trade in &self.desk.trades {
@@ -140,7 +164,7 @@ impl Draft<'_> {
             1 => self.lines[line][1] = chance.pick(&[filled + 1, filled.saturating_sub(1), 268_435_455]),
             2 => {
                 self.lines[line][0] =
-                    chance.pick(&[(reason + 1) % 14, (reason + 13) % 14, 0, 1, reason + 256, reason + 65_536])
+                    chance.pick(&[(reason + 1) % 15, (reason + 14) % 15, 0, 1, 14, reason + 256, reason + 65_536])
             }
             3 => self.set_fill(line, (claim + 1).min(self.desk.lines[line].size)),
             4 => self.set_fill(line, filled.saturating_sub(1)),

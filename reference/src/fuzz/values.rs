@@ -81,6 +81,18 @@ pub fn header(chance: &mut Chance) -> [u32; Header::NUMBERS] {
     numbers
 }
 
+/// A header in range whose automatic sizes are large but for one away exchange's.
+pub fn header_with_one_small_size(chance: &mut Chance) -> [u32; Header::NUMBERS] {
+    let mut numbers = header(chance);
+    let exchanges = numbers[1] as usize;
+    for exchange in 0..exchanges {
+        numbers[3 + 2 * exchange] = chance.pick(&[128, 500, 9_999]);
+    }
+    let small = (numbers[0] as usize + chance.below(exchanges - 1)) % exchanges;
+    numbers[3 + 2 * small] = 10;
+    numbers
+}
+
 /// A header that may have one number out of range, or sizes beyond the 2N that count.
 pub fn header_or_near(chance: &mut Chance) -> [u32; Header::NUMBERS] {
     let mut numbers = header(chance);
@@ -124,12 +136,13 @@ fn usual_fields(chance: &mut Chance, kind: u32, header: &[u32]) -> [u32; Record:
         4 | 6 => [chance.between(1, 2), away, series(chance), one_or_two, price, size, 0, 0],
         5 => [naming(chance), chance.pick(&[0, 1, size, 100_000]), 0, 0, 0, 0, 0, 0],
         7 => [naming(chance), away, price, size, 0, 0, 0, 0],
+        8 => [naming(chance), chance.between(1, exchanges), 0, 0, 0, 0, 0, 0],
         _ => [0; Record::MOST_FIELDS],
     }
 }
 
 pub fn unknown_kind(chance: &mut Chance) -> u32 {
-    chance.pick(&[0, 8, 10, 11, 12, 127, 128, 16_384, 268_435_455])
+    chance.pick(&[0, 10, 11, 12, 127, 128, 16_384, 268_435_455])
 }
 
 fn naming(chance: &mut Chance) -> u32 {
@@ -147,7 +160,7 @@ fn quote_fields(chance: &mut Chance, exchanges: u32) -> [u32; Record::MOST_FIELD
 /// A record, one number of which may lie at the end of its range, outside, or beyond what can be stored.
 pub fn record_or_near(chance: &mut Chance, header: &[u32; Header::NUMBERS]) -> Record {
     let exchanges = header[1].clamp(2, 8);
-    let kind = chance.pick(&[1, 2, 3, 4, 5, 6, 7, 9]);
+    let kind = chance.pick(&[1, 2, 3, 4, 5, 6, 7, 8, 8, 8, 9]);
     let fields = usual_fields(chance, kind, &[header[0].min(8), exchanges]);
     let milliseconds = chance.pick(&[0, 0, 1, 127, 128, 1_000, 20_001, 16_384, 2_097_152, 86_399_999]);
     let mut record = Record { kind, milliseconds, fields };
@@ -166,7 +179,7 @@ pub fn record_or_near(chance: &mut Chance, header: &[u32; Header::NUMBERS]) -> R
 
 /// What each field of each kind means: Exchange, Series, Price, Contracts, Three (0 to 2), Flag, Delay, One or two,
 /// Naming.
-const MEANT: [&[u8]; 8] = [b"", b"ESPCCPCC", b"ET", b"SPCTFED", b"OESOPC", b"NC", b"OESOPC", b"NEPC"];
+const MEANT: [&[u8]; 9] = [b"", b"ESPCCPCC", b"ET", b"SPCTFED", b"OESOPC", b"NC", b"OESOPC", b"NEPC", b"NE"];
 
 /// A value at or just beyond an end of the range of this field, or one that can't be stored.
 pub fn near_an_end(chance: &mut Chance, kind: u32, field: usize, home: u32, exchanges: u32) -> u32 {

@@ -4,6 +4,7 @@ use Rattle.explain.proofs.explain.Statement.{statement}
 use Rattle.explain.proofs.explain.Tie as tie
 use Rattle.explain.proofs.explain.Reads as reads
 use Rattle.explain.proofs.explain.Lts as lts
+use Rattle.explain.proofs.cancelled.read.Reads as read-reads
 use Rattle.explain.proofs.tell.Reads as tell-reads
 use Rattle.header.proofs.read_header.Reads as read-header-reads
 use Rattle.os.proofs.fail.Reads as fail-reads
@@ -31,6 +32,9 @@ read-lines-requires c κs = search (clerk-laws, needs)
 read-header-requires : tie.Need-read-header-requires
 read-header-requires c κs = search (clerk-laws, needs)
 
+read-requires : tie.Need-read-requires
+read-requires c κs = search (clerk-laws, needs)
+
 tell-requires : tie.Need-tell-requires
 tell-requires c κs = search (clerk-laws, needs)
 
@@ -57,6 +61,7 @@ explain-spec =
     returns
     read-lines-requires
     read-header-requires
+    read-requires
     tell-requires
     slice-aggregate-fail
     fail-requires

@@ -1,0 +1,44 @@
+// When home cancelled each Satisfaction Order and named the exchange that initiated its trade. The tables of the survey keep no such time, so the
+// records are read once more.
+use header::Head;
+use numbered::SatisfactionOrder;
+use rows::Rec;
+
+pub struct Cancelled;
+
+impl Cancelled {
+    // No time of a day: what stands for an order that nothing cancels.
+    pub const NEVER: u32 = 4294967295;
+}
+
+// "the Satisfaction Order's number and the exchange named". An accepted journal cancels an order at most once, and names the initiator.
+fn note(times: &mut [u32; 512], rec: Rec) {
+    if rec.kind != Rec::NAMING {
+        return;
+    }
+    let row = rec.row;
+    let n = rows::index(row[0]);
+    if n < SatisfactionOrder::MOST {
+        times[n] = rec.time;
+    }
+}
+
+// The journal is accepted, so that each record is read whole; one that is not takes no bytes and ends the walk.
+pub fn read(journal: &[u8], start: usize, head: Head, times: &mut [u32; 512]) {
+    let mut at = start;
+    let mut time: u32 = 0;
+    while at < journal.len() {
+        let taken = record::take(&journal[at..], head.exchanges, head.home, time);
+        let used = taken.used;
+        if used == 0 {
+            return;
+        }
+        if journal.len() - at < used {
+            return;
+        }
+        let rec = taken.rec;
+        note(times, rec);
+        time = rec.time;
+        at += used;
+    }
+}
