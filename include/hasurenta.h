@@ -4,17 +4,22 @@
  * Every function answers one number, refusal * 2^32 + place. Refusal 0 means accepted: then the low 32 bits are how many
  * elements of `out` were written, from its start, and the rest of `out` is as it was (0 for a function without `out`). Any
  * other refusal is one of document 01's table, with its place, or HASURENTA_WRONG_COUNT, and all of `out` is as it was.
- * A record's kind is one of document 01's 1 to 7, or one of two of document 02, which print nothing:
+ * A record's kind is one of document 01's 1 to 7, or one of three of document 02, which print nothing:
  * 8, the number of a Satisfaction Order and an exchange: home cancels the order and names the initiator of its trade. In time
  * that makes reason 14, judged after 9 and before 11, with claim 0; late, it changes nothing. A number that is no exchange's is
  * 5. An order that is not there or was cancelled before, a trade without initiator, an exchange that is not the initiator: 7.
  * 9, without fields: the closing window has begun. A second is 7; of each trade after it every claim is at most 10 contracts.
+ * 11, the number of a Satisfaction Order: home cancels an order that has the price of its trade, as for a block, where the trade
+ * was none. The order keeps its reason, and its exchange may send one more for the trade: that one has reason 15, in the place of
+ * 8 and 9, if it comes later than 180,000 ms after the cancellation. An order that is not there or was cancelled before by 8 or
+ * 11, a block, another price than the trade's, more than 180,000 ms after the order, a second 11 for the exchange and trade: 7.
+ * 10 is no kind (4).
  * What each function answers is proved for every input: crates/desk/src/lib.rt has the statement over it.
  *
  * A slice is a pointer and a count of elements, and NULL with 0 is an empty one. Nothing is asked of what the slices hold
  * or how long they are. The caller's part: each pointer reaches as many elements as are counted, and `out` overlaps no
  * other slice. Nothing is kept between calls, no memory is taken but the stack (some 250 KB
- * by hasurenta_day, 100 KB by the others), and calls from several threads may run at once. */
+ * by hasurenta_day, 120 KB by the others), and calls from several threads may run at once. */
 #ifndef HASURENTA_H
 #define HASURENTA_H
 

@@ -30,7 +30,7 @@ is_text_of_a_day() { is_text "$1" && awk '$1 == "header" { found = 1; exit } END
 # many exchanges there are, with which a journal begins.
 reads_as_sheet() {
     od -A n -v -t u1 "$1" | awk '
-        function is_reason(n) { return n == 0 || (n >= 2 && n <= 14) }
+        function is_reason(n) { return n == 0 || (n >= 2 && n <= 15) }
         function take(n) {
             count++
             if (count <= 2) front[count] = n

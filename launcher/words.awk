@@ -3,7 +3,8 @@
 # in front and filled up to one length; with way=text the lines of numbers of the program decode become a text.
 
 BEGIN {
-    kinds = split("quote status trade sent response received satisfaction naming closing", kind, " ")
+    # a kind's place is its number, and - keeps the place of one that is not known
+    kinds = split("quote status trade sent response received satisfaction naming closing - cancellation", kind, " ")
     # "when" is "after" with milliseconds since the record before, or "at" with a clock time
     names["header"] = "home exchanges close sizes"
     names["quote"] = "when exchange series bid size customers offer size customers"
@@ -15,7 +16,8 @@ BEGIN {
     names["satisfaction"] = "when trade from price size"
     names["naming"] = "when claim exchange"
     names["closing"] = "when"
-    for (k = 1; k <= kinds; k++) {
+    names["cancellation"] = "when claim"
+    for (k = 1; k <= kinds; k++) if (kind[k] != "-") {
         number[kind[k]] = k
         known = known ", " kind[k]
     }

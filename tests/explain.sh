@@ -1,7 +1,8 @@
 #!/bin/sh
 # What explain says of a clerk's first day, examples/clerk.day: alone (tests/explain/alone), beside a good sheet (tests/explain/good), and beside
 # damaged ones. Of these tests/explain/NAME has what differs from the words beside the good sheet, as diff prints it: where the sheet
-# was refused, and what it says there. Then the same of tests/explain/named.day, where home cancels orders and names who initiated the trade.
+# was refused, and what it says there. Then the same of tests/explain/named.day, where home cancels orders and names who initiated the trade, and of
+# tests/explain/again.day, where it cancels orders priced as for a block that was none and their exchanges send again.
 set -u
 cd "$(dirname "$0")/.." || exit 1
 work=$(mktemp -d) || exit 1
@@ -69,6 +70,23 @@ held named-good "$work/good"
 damaged named-late '\016\000\062\016\000\017\011\000\014\016\000\036\000\017\000'
 damaged named-over-nine '\016\000\062\000\017\000\016\000\014\016\000\036\000\017\000'
 damaged named-and-filled '\016\036\024\000\017\000\011\000\014\016\000\036\000\017\000'
+
+./hasurenta encode tests/explain/again.day >"$work/journal" || exit 1
+./hasurenta explain "$work/journal" >"$work/told" || exit 1
+held again "$work/told"
+zero='\013\000\062\013\000\017\000\055\005\017\000\017'
+one='\013\000\036\010\000\017\000\027\007\000\007\010'
+two='\013\000\036\013\000\017\016\000\036\017\000\017'
+told 0 again-good "$zero$one$two"
+cp "$work/told" "$work/good"
+held again-good "$work/good"
+
+# Of trade 0 the order that was cancelled is filled in the place of the one that was sent again; both are filled; the one that was sent again too late is filled.
+# Of trade 1 an order that was sent again is held against the report.
+damaged again-first-filled '\000\055\005\013\000\017\000\000\062\017\000\017'"$one$two"
+damaged again-both-filled '\013\055\005\013\000\017\000\055\005\017\000\017'"$one$two"
+damaged again-late-filled '\013\000\062\013\000\017\000\055\005\000\017\000'"$one$two"
+damaged again-by-the-report "$zero"'\013\000\036\010\000\017\010\000\036\000\017\000'"$two"
 
 [ "$tried" -eq "$(ls tests/explain | grep -cv '\.day$')" ] || { echo 'explain: tests/explain has a file that nothing is held to'; wrong=$((wrong + 1)); }
 echo "explain: $tried days told, $wrong wrong"

@@ -76,7 +76,7 @@ for text in examples/*.day; do
     expect 0 check - "$sheet" <"$journal"; wrote accepted
     expect 0 check "$journal" - <"$sheet"; wrote accepted
 done
-[ "$tried" -ge 143 ] || { what=examples; fail "only $tried tries"; }
+[ "$tried" -ge 156 ] || { what=examples; fail "only $tried tries"; }
 
 d=$work/day-d.journal
 printf '\001\002\200\320\273\033\012\012\012\012\001\350\007\002\000\156\024\017\170\024\000\003\000\000\144\014\000\000\000\000\007\350\007\000\002\156\024' >"$work/bytes"
@@ -146,6 +146,7 @@ refused_journal() { # REFUSAL PLACE OCTAL : a record after a header
 tenth='the record that starts at byte 10'
 refused_journal 'refused 2 at 12' 'byte 12 of the journal' '\002\000\200\000'
 refused_journal 'refused 4 at 10' "$tenth" '\144\000'
+refused_journal 'refused 4 at 10' "$tenth" '\012\000\000'
 refused_journal 'refused 5 at 10' "$tenth" '\002\000\003\000'
 refused_journal 'refused 6 at 10' "$tenth" '\001\000\002\000\001\001\000\001\001\000'
 refused_journal 'refused 7 at 10' "$tenth" '\005\000\000\000'
@@ -220,7 +221,7 @@ faulty 'line 2: expected a number after "series", found "zero"' "$h\nquote after
 faulty 'line 2: expected a number after "after", found the end of the line' "$h\nstatus after"
 faulty 'line 2: expected "state", found the end of the line' "$h\nstatus after 0 exchange 2\n"
 faulty 'line 3: unknown word "now", expected the end of the line' "$h\n# so far good\nstatus after 0 exchange 2 state 1 now\n"
-faulty 'line 2: unknown word "qoute", expected a kind: header, quote, status, trade, sent, response, received, satisfaction, naming, closing' "$h\nqoute after 0\n"
+faulty 'line 2: unknown word "qoute", expected a kind: header, quote, status, trade, sent, response, received, satisfaction, naming, closing, cancellation' "$h\nqoute after 0\n"
 faulty 'line 1: expected the header first, found "status"' 'status after 0 exchange 2 state 1\n'
 faulty 'line 3: a second header' "$h\n\n$h\n"
 faulty 'line 1: expected 4 sizes, found 3' 'header home 1 exchanges 2 close 57600000 sizes 10 10 10\n'
@@ -250,6 +251,29 @@ for late in 0 180001; do
     faulty 'line 5: refused 7' "$h\n$t 2 delay 0\n$f\nnaming after $late claim 0 exchange 2\nnaming after 0 claim 0 exchange 2\n"
 done
 faulty 'line 2: unknown word "order", expected "claim"' "$h\nnaming after 0 order 0 exchange 2\n"
+# Which order a cancellation may be for, and until when: one that is there, priced as for a block where there was none, up to three minutes old.
+p='satisfaction after 1 trade 0 from 2 price 100 size 5'
+c='cancellation after 0 claim'
+n='naming after 0 claim 0 exchange 2'
+block='quote after 0 exchange 2 series 0 bid 310 size 20 customers 15 offer 0 size 0 customers 0\ntrade after 0 series 0 price 300 size'
+faulty 'line 4: refused 7' "$h\n$t 0 delay 0\n$p\n$c 1\n"
+faulty 'line 4: refused 7' "$h\n$t 0 delay 0\n$f\n$c 0\n"
+faulty 'line 4: refused 7' "$h\n$t 0 delay 0\n$p\ncancellation after 180001 claim 0\n"
+faulty 'line 5: refused 7' "$h\n$block 500 form 1 complex 0 initiator 0 delay 0\nsatisfaction after 1 trade 0 from 2 price 300 size 5\n$c 0\n"
+faulty 'line 5: refused 5' "$h\n$block 499 form 1 complex 0 initiator 0 delay 0\nsatisfaction after 1 trade 0 from 2 price 300 size 5\n$c 268435456\n"
+# Cancelled is cancelled, by either record; and only a cancellation lets its exchange send again, once.
+faulty 'line 5: refused 7' "$h\n$t 2 delay 0\n$p\n$c 0\n$c 0\n"
+faulty 'line 5: refused 7' "$h\n$t 2 delay 0\n$p\n$c 0\n$n\n"
+for late in 0 180001; do
+    faulty 'line 5: refused 7' "$h\n$t 2 delay 0\n$p\nnaming after $late claim 0 exchange 2\n$c 0\n"
+done
+faulty 'line 4: refused 7' "$h\n$t 2 delay 0\n$p\n$f\n$c 0\n"
+faulty 'line 5: refused 7' "$h\n$t 2 delay 0\n$p\n$n\n$f\n"
+faulty 'line 6: refused 7' "$h\n$t 2 delay 0\n$p\n$c 0\n$f\n$f\n"
+faulty 'line 6: refused 7' "$h\n$t 2 delay 0\n$p\n$c 0\n$p\n$c 1\n"
+faulty 'line 2: unknown word "order", expected "claim"' "$h\ncancellation after 0 order 0\n"
+faulty 'line 2: unknown word "exchange", expected the end of the line' "$h\ncancellation after 0 claim 0 exchange 2\n"
+faulty 'line 2: unknown word "-", expected a kind: header, quote, status, trade, sent, response, received, satisfaction, naming, closing, cancellation' "$h\n- after 0\n"
 awk -v h="$h" -v q="$q" 'BEGIN { print h; for (i = 0; i < 3000; i++) print q }' >"$work/text"
 expect 1 encode "$work/text"; wrote_nothing; named 'refused 1'
 printf '  header\thome 01 exchanges 2 close 57600000 sizes 10 10 10 0000000000010 # all in one line\r\n\r\n' >"$work/text"

@@ -146,8 +146,9 @@ WORK=$work awk '
         for (i = 0; i < 256; i++) hex[i] = sprintf("%02x", i)
         for (i = 1; i < 128; i++) letter[hex[i]] = sprintf("%c", i)
         for (i = split("journal day sheet check totals wheader wrecord rrecord rewrite", names, " "); i > 0; i--) op[names[i]] = i
-        # How many fields the kinds 1 to 9 have.
+        # How many fields the kinds 1 to 9 have, and 11.
         split("8 2 7 6 2 6 4 2 0", fields, " ")
+        fields[11] = 1
         # The room that is lent: what `ask` has, more than a journal needs, more than a refusal. And the refusal where it is too short.
         most = 131072
         plenty = 40000

@@ -6,15 +6,15 @@ use crate::fuzz::activity::put_number;
 use crate::refusal::{No, Refusal};
 use crate::{journal, sheet};
 
-type Records = Vec<Vec<u32>>;
+pub type Records = Vec<Vec<u32>>;
 
 const INITIATOR: u32 = 4;
 
-fn bytes_of(records: &Records) -> Vec<u8> {
+pub fn bytes_of(records: &Records) -> Vec<u8> {
     day_of(&records.iter().map(Vec::as_slice).collect::<Vec<_>>())
 }
 
-fn list_of(records: &Records) -> String {
+pub fn list_of(records: &Records) -> String {
     printed(&records.iter().map(Vec::as_slice).collect::<Vec<_>>())
 }
 
@@ -33,7 +33,7 @@ fn cancelled_on(size: u32, cancellations: &[[u32; 3]]) -> Records {
     records
 }
 
-fn sheet_of(lines: &[[u32; 3]]) -> Vec<u8> {
+pub fn sheet_of(lines: &[[u32; 3]]) -> Vec<u8> {
     let mut bytes = Vec::new();
     for &number in lines.iter().flatten() {
         put_number(&mut bytes, number);
@@ -166,7 +166,7 @@ fn an_event_that_prints_nothing() {
 }
 
 /// What the last record is refused for; those before it are not.
-fn refused_last(records: &Records) -> Option<No> {
+pub fn refused_last(records: &Records) -> Option<No> {
     let (_, before) = records.split_last().expect("there are records");
     let start = bytes_of(&before.to_vec()).len();
     assert_eq!(journal::accept(&bytes_of(records)[..start]), Ok(()));

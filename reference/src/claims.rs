@@ -1,6 +1,6 @@
 //! Home trades with the snapshot that judges their Satisfaction Orders: reasons, claims, due totals.
 
-use crate::event::{Cancellation, HomeTrade, Order, Quote, Response, SIDES, Satisfaction, Side, Status};
+use crate::event::{Cancellation, HomeTrade, NoBlock, Order, Quote, Response, SIDES, Satisfaction, Side, Status};
 use crate::header::{Exchanges, Header};
 use crate::journal::{Moment, Watcher};
 use crate::market::Market;
@@ -23,6 +23,7 @@ pub mod reason {
     pub const NOT_THE_PRICE: u8 = 12;
     pub const NO_CUSTOMERS: u8 = 13;
     pub const INITIATOR_NAMED: u8 = 14;
+    pub const SENT_AGAIN_LATE: u8 = 15;
 }
 
 /// What a trade settles for one exchange: "prices, customer contracts and statuses are those at the trade".
@@ -33,10 +34,13 @@ struct Standing {
     /// The bid or offer traded through.
     price: u32,
     customers: u32,
+    /// Where home has cancelled its claim as priced for a block that was none: the last moment to send again.
+    last_again: Option<u32>,
 }
 
 impl Standing {
-    const NOT_TRADED_THROUGH: Standing = Standing { reason: reason::NOT_TRADED_THROUGH, price: 0, customers: 0 };
+    const NOT_TRADED_THROUGH: Standing =
+        Standing { reason: reason::NOT_TRADED_THROUGH, price: 0, customers: 0, last_again: None };
 }
 
 pub struct Trade {
@@ -44,7 +48,7 @@ pub struct Trade {
     pub size: u32,
     initiated: bool,
     pub block: bool,
-    /// A Satisfaction Order received later than this is late.
+    /// A Satisfaction Order received later than this is late, unless it is the exchange's second.
     last_timely: u32,
     /// How many away exchanges were traded through.
     pub traded_through: u32,
@@ -58,8 +62,8 @@ pub struct Trade {
 }
 
 impl Trade {
-    /// One for each away exchange.
-    pub const MOST_LINES: usize = Exchanges::MOST as usize - 1;
+    /// One for each away exchange, and one more for each that sends again.
+    pub const MOST_LINES: usize = 2 * (Exchanges::MOST as usize - 1);
 
     pub fn is_traded_through(&self, exchange: usize) -> bool {
         self.standings[exchange].reason != reason::NOT_TRADED_THROUGH
@@ -92,8 +96,12 @@ impl Trade {
         if standing.reason != reason::NONE {
             return standing.reason;
         }
-        if received > self.last_timely {
-            return if self.initiated { reason::LATE_FOR_INITIATOR } else { reason::LATE };
+        // "The second is not judged by 8 or 9 but by reason 15 ...; 15 stands in 8's place."
+        match standing.last_again {
+            Some(last_again) if received > last_again => return reason::SENT_AGAIN_LATE,
+            None if received > self.last_timely && self.initiated => return reason::LATE_FOR_INITIATOR,
+            None if received > self.last_timely => return reason::LATE,
+            _ => {}
         }
         if order.price == self.price && !self.block {
             return reason::TRADE_PRICE_NO_BLOCK;
@@ -109,6 +117,8 @@ impl Trade {
 /// What a Satisfaction Order comes to.
 #[derive(Clone, Copy)]
 pub struct Line {
+    trade: u16,
+    from: u16,
     pub reason: u8,
     pub size: u32,
     pub claim: u32,
@@ -121,7 +131,7 @@ impl Line {
     /// "For a trade after it, each claim is also at most 10, and due totals follow."
     pub const MOST_CLAIM_AT_CLOSE: u32 = 10;
 
-    /// The reasons judged after 14, and none at all.
+    /// The reasons judged after 14, and none at all. "15 stands in 8's place", before it.
     pub fn gives_way_to_cancellation(&self) -> bool {
         matches!(
             self.reason,
@@ -140,7 +150,6 @@ impl Line {
 
 pub struct Desk<'h> {
     pub header: &'h Header,
-    pub market: Market,
     open_orders: OpenOrders,
     closing_window_begun: bool,
     pub trades: Vec<Trade>,
@@ -151,7 +160,6 @@ impl<'h> Desk<'h> {
     pub fn new(header: &'h Header) -> Desk<'h> {
         Desk {
             header,
-            market: Market::default(),
             open_orders: OpenOrders::default(),
             closing_window_begun: false,
             trades: Vec::with_capacity(HomeTrade::MOST),
@@ -168,22 +176,11 @@ impl<'h> Desk<'h> {
     }
 
     /// "Traded through if its bid is above the price or its offer below it."
-    fn side_traded_through(&self, exchange: usize, trade: &HomeTrade) -> Option<Side> {
+    fn side_traded_through(market: &Market, exchange: usize, trade: &HomeTrade) -> Option<Side> {
         SIDES.into_iter().find(|side| {
-            let shown = self.market.price(exchange, trade.series, *side);
+            let shown = market.price(exchange, trade.series, *side);
             side.is_better(shown, trade.price)
         })
-    }
-
-    /// "500 or more contracts, price in cents times contracts at least 150,000, price below the best bid or above the
-    /// best offer, and block form 1 or 2."
-    fn is_block(&self, trade: &HomeTrade) -> bool {
-        const CONTRACTS: u32 = 500;
-        const VALUE: u64 = 150_000;
-        trade.block_form != 0
-            && trade.size >= CONTRACTS
-            && trade.price as u64 * trade.size as u64 >= VALUE
-            && SIDES.into_iter().any(|side| side.is_better(self.market.best(trade.series, side), trade.price))
     }
 
     /// "Report = trade time plus delay." With an initiator the 180,000 ms hold near the close too.
@@ -201,9 +198,9 @@ impl<'h> Desk<'h> {
     }
 
     /// The reasons after 10 that are settled at the trade, in the paper's order.
-    fn reason_at_trade(&self, time: u32, trade: &HomeTrade, exchange: usize, side: Side) -> u8 {
-        let sender = self.market.status(exchange);
-        let home = self.market.status(self.home());
+    fn reason_at_trade(&self, market: &Market, time: u32, trade: &HomeTrade, exchange: usize, side: Side) -> u8 {
+        let sender = market.status(exchange);
+        let home = market.status(self.home());
         if self.open_orders.excuse(exchange, trade.series, side, time) {
             reason::ORDER_UNANSWERED
         } else if sender == Status::NON_FIRM {
@@ -221,12 +218,12 @@ impl<'h> Desk<'h> {
         }
     }
 
-    pub fn judge_trade(&mut self, time: u32, home_trade: &HomeTrade) -> &Trade {
+    pub fn judge_trade(&mut self, market: &Market, time: u32, home_trade: &HomeTrade) -> &Trade {
         let mut trade = Trade {
             price: home_trade.price,
             size: home_trade.size,
             initiated: home_trade.initiator.is_some(),
-            block: self.is_block(home_trade),
+            block: market.is_block(home_trade),
             last_timely: self.last_timely(time, home_trade),
             traded_through: 0,
             larger_than_firm: false,
@@ -236,15 +233,16 @@ impl<'h> Desk<'h> {
             line_count: 0,
         };
         for exchange in (0..self.header.exchanges as usize).filter(|&exchange| exchange != self.home()) {
-            let Some(side) = self.side_traded_through(exchange, home_trade) else {
+            let Some(side) = Self::side_traded_through(market, exchange, home_trade) else {
                 continue;
             };
             trade.traded_through += 1;
             trade.larger_than_firm |= trade.size > self.header.customer_firm_size(exchange);
             trade.standings[exchange] = Standing {
-                reason: self.reason_at_trade(time, home_trade, exchange, side),
-                price: self.market.price(exchange, home_trade.series, side),
-                customers: self.market.customers(exchange, home_trade.series, side),
+                reason: self.reason_at_trade(market, time, home_trade, exchange, side),
+                price: market.price(exchange, home_trade.series, side),
+                customers: market.customers(exchange, home_trade.series, side),
+                last_again: None,
             };
         }
         self.trades.push(trade);
@@ -254,20 +252,15 @@ impl<'h> Desk<'h> {
 
 impl Watcher for Desk<'_> {
     #[inline(always)]
-    fn quote(&mut self, _at: Moment, quote: &Quote) {
-        self.market.quote(quote);
+    fn quote(&mut self, _at: Moment, _market: &Market, quote: &Quote) {
         self.open_orders.quote(quote);
     }
 
-    fn status(&mut self, status: &Status) {
-        self.market.set_status(status);
+    fn home_trade(&mut self, at: Moment, market: &Market, trade: &HomeTrade) {
+        self.judge_trade(market, at.time, trade);
     }
 
-    fn home_trade(&mut self, at: Moment, trade: &HomeTrade) {
-        self.judge_trade(at.time, trade);
-    }
-
-    fn sent_order(&mut self, at: Moment, order: &Order) {
+    fn sent_order(&mut self, at: Moment, _market: &Market, order: &Order) {
         self.open_orders.send(at.time, order);
     }
 
@@ -287,7 +280,8 @@ impl Watcher for Desk<'_> {
         let claim = if reason == reason::NONE { trade.claim(order.size, customers) } else { 0 };
         trade.lines[trade.line_count] = self.lines.len() as u16;
         trade.line_count += 1;
-        self.lines.push(Line { reason, size: order.size, claim, customers, last_cancellation });
+        let (trade, from) = (order.trade as u16, order.from as u16);
+        self.lines.push(Line { trade, from, reason, size: order.size, claim, customers, last_cancellation });
     }
 
     /// "A late one cancels and changes nothing."
@@ -296,6 +290,13 @@ impl Watcher for Desk<'_> {
         if at.time <= line.last_cancellation {
             line.cancel_in_time();
         }
+    }
+
+    /// "The first keeps the reason it has."
+    fn no_block(&mut self, at: Moment, no_block: &NoBlock) {
+        let Line { trade, from, .. } = self.lines[no_block.order];
+        let standing = &mut self.trades[trade as usize].standings[from as usize];
+        standing.last_again = Some(at.time + Time::TO_SEND_AGAIN);
     }
 
     fn closing_window(&mut self, _at: Moment) {

@@ -1,10 +1,10 @@
 //! "The printed day": a list of the verdicts, one line for each event that has one.
 
 use crate::claims::Desk;
-use crate::event::{Cancellation, HomeTrade, Order, Quote, Response, Satisfaction, Status};
+use crate::event::{Cancellation, HomeTrade, NoBlock, Order, Quote, Response, Satisfaction};
 use crate::header::Header;
 use crate::journal::{Moment, Watcher, open, walk};
-use crate::market::Duty;
+use crate::market::{Duty, Market};
 use crate::refusal::{Refusal, hand_over};
 use crate::sheet::own_fills;
 
@@ -79,29 +79,25 @@ impl Day<'_> {
 
 impl Watcher for Day<'_> {
     #[inline(always)]
-    fn quote(&mut self, at: Moment, quote: &Quote) {
-        self.desk.quote(at, quote);
+    fn quote(&mut self, at: Moment, market: &Market, quote: &Quote) {
+        self.desk.quote(at, market, quote);
         if quote.exchange + 1 == self.desk.header.home as usize {
-            let verdict = self.desk.market.home_quote_verdict(quote.exchange, quote.series);
+            let verdict = market.home_quote_verdict(quote.exchange, quote.series);
             self.print(at, b'Q', [verdict.verdict, verdict.exchange, verdict.side]);
         }
     }
 
-    fn status(&mut self, status: &Status) {
-        self.desk.status(status);
-    }
-
-    fn home_trade(&mut self, at: Moment, trade: &HomeTrade) {
+    fn home_trade(&mut self, at: Moment, market: &Market, trade: &HomeTrade) {
         let number = self.desk.trades.len() as u32;
-        let trade = self.desk.judge_trade(at.time, trade);
+        let trade = self.desk.judge_trade(market, at.time, trade);
         let values = [number, trade.traded_through, trade.block as u32];
         self.print(at, b'T', values);
     }
 
-    fn sent_order(&mut self, at: Moment, order: &Order) {
+    fn sent_order(&mut self, at: Moment, market: &Market, order: &Order) {
         let number = self.desk.sent_orders();
-        let verdict = self.desk.market.sent_order_verdict(order);
-        self.desk.sent_order(at, order);
+        let verdict = market.sent_order_verdict(order);
+        self.desk.sent_order(at, market, order);
         self.print(at, b'S', [verdict, number, 0]);
     }
 
@@ -110,8 +106,8 @@ impl Watcher for Day<'_> {
     }
 
     /// "R: 0 none, 1 whole, 2 at least; contracts, 0 for none; reason or 0."
-    fn received_order(&mut self, at: Moment, order: &Order) {
-        let values = match self.desk.market.received_order_duty(self.desk.header, order) {
+    fn received_order(&mut self, at: Moment, market: &Market, order: &Order) {
+        let values = match market.received_order_duty(self.desk.header, order) {
             Duty::None { reason } => [0, 0, reason],
             Duty::Whole { contracts } => [1, contracts, 0],
             Duty::AtLeast { contracts } => [2, contracts, 0],
@@ -127,6 +123,10 @@ impl Watcher for Day<'_> {
     /// "It prints nothing, nor do kinds 8 and 11."
     fn cancellation(&mut self, at: Moment, cancellation: &Cancellation) {
         self.desk.cancellation(at, cancellation);
+    }
+
+    fn no_block(&mut self, at: Moment, no_block: &NoBlock) {
+        self.desk.no_block(at, no_block);
     }
 
     fn closing_window(&mut self, at: Moment) {

@@ -1,11 +1,9 @@
 //! Day D and the thirteen examples of the paper, by number, and the ten contracts at the close. Examples 4 to 7 leave
 //! prices, senders and N open: here home is 1 of four, the trade is at 100 and exchanges 2, 3, 4 bid 110.
 
-use crate::claims::Desk;
 use crate::event::{HomeTrade, Quote};
 use crate::fuzz::activity::put_number;
-use crate::header::Header;
-use crate::journal::{Moment, Watcher};
+use crate::market::Market;
 use crate::refusal::{No, Refusal};
 use crate::{day, journal, sheet, vectors};
 
@@ -75,13 +73,10 @@ fn good_fills(journal: &[u8], sizes: &[u32]) -> Vec<Vec<u32>> {
 }
 
 fn is_block(price: u32, size: u32) -> bool {
-    let mut header = Header { home: 1, exchanges: 2, close: CLOSE, ..Header::default() };
-    header.sizes[..2].fill(crate::header::FirmSizes { automatic: 10, principal: 10 });
-    let mut desk = Desk::new(&header);
-    let at = Moment { event: 0, time: MORNING };
-    desk.quote(at, &Quote { exchange: 1, series: 0, prices: [0, price - 1], customers: [0, 0] });
+    let mut market = Market::default();
+    market.quote(&Quote { exchange: 1, series: 0, prices: [0, price - 1], customers: [0, 0] });
     let trade = HomeTrade { series: 0, price, size, block_form: 1, complex: false, initiator: None, delay: 0 };
-    desk.judge_trade(MORNING, &trade).block
+    market.is_block(&trade)
 }
 
 #[test]

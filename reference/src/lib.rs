@@ -1,6 +1,8 @@
 //! The linkage desk's journal, verdicts and sheets in plain Rust, written from documents 01 and 02 alone: a second
 //! opinion for the proved code, and its peer in speed.
 
+#[cfg(test)]
+mod again;
 pub mod ask;
 #[cfg(test)]
 mod cancellations;

@@ -77,7 +77,7 @@ fn mixed(day: &mut Activity) {
 
 fn mix_up_to(day: &mut Activity, length: usize) {
     while day.bytes.len() < length {
-        if day.trades() < 127 && day.sent() < 255 && day.satisfactions() < 505 {
+        if day.trades() < 127 && day.sent() < 255 && day.satisfactions() < 498 {
             day.something();
         } else {
             day.something_without_numbers();

@@ -1,6 +1,6 @@
 //! The quotes and statuses standing, and the verdicts that they alone decide.
 
-use crate::event::{Order, Quote, SIDES, Side, Status};
+use crate::event::{HomeTrade, Order, Quote, SIDES, Side, Status};
 use crate::header::{Exchanges, Header};
 use crate::record::Series;
 
@@ -88,6 +88,17 @@ impl Market {
             // One less turns an absent offer into the highest there is.
             Side::Offer => shown.iter().fold(u32::MAX, |best, &offer| best.min(offer.wrapping_sub(1))).wrapping_add(1),
         }
+    }
+
+    /// "500 or more contracts, price in cents times contracts at least 150,000, price below the best bid or above the
+    /// best offer, and block form 1 or 2", asked when the trade is made.
+    pub fn is_block(&self, trade: &HomeTrade) -> bool {
+        const CONTRACTS: u32 = 500;
+        const VALUE: u64 = 150_000;
+        trade.block_form != 0
+            && trade.size >= CONTRACTS
+            && trade.price as u64 * trade.size as u64 >= VALUE
+            && SIDES.into_iter().any(|side| side.is_better(self.best(trade.series, side), trade.price))
     }
 
     /// "Crossed if its bid is above an away offer or its offer below an away bid; else locked if equal.

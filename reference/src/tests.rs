@@ -88,8 +88,28 @@ fn a_cancellation_alone_names_any_number_and_any_exchange() {
 }
 
 #[test]
+fn a_no_block_record_alone_names_any_number() {
+    let header = two_exchanges();
+    let of = |order| Record { kind: kind::NO_BLOCK, fields: [order, 0, 0, 0, 0, 0, 0, 0], ..Record::default() };
+    let mut out = [0xA5; 8];
+    let no_block = of(268_435_455);
+    let with_fields_beyond = Record { fields: [268_435_455, 9, 9, 9, 9, 9, 9, u32::MAX], ..no_block };
+    assert_eq!(with_fields_beyond.write(&header, 0, &mut out), Ok(6));
+    assert_eq!(out, [11, 0, 0xFF, 0xFF, 0xFF, 0x7F, 0xA5, 0xA5]);
+    assert_eq!(Record::read_alone(&header, 0, &out), Ok((6, no_block)));
+    let refused = |no, place| Err(Refusal { no, place });
+    assert_eq!(Record::read_alone(&header, 0, &[11, 0]), refused(No::UnreadableNumber, 2));
+    assert_eq!(Record::read_alone(&header, 0, &[11, 0, 0x80, 0]), refused(No::UnreadableNumber, 2));
+    assert_eq!(Record::read_alone(&header, 86_399_999, &[11, 1, 0]), refused(No::Field, 0));
+    for unfit in [268_435_456, u32::MAX] {
+        assert_eq!(of(unfit).write(&header, 0, &mut out), Err(Refusal::new(No::Field)));
+    }
+    assert_eq!(no_block.write(&header, 0, &mut out[..5]), Err(Refusal::new(No::OutputTooShort)));
+}
+
+#[test]
 fn unknown_kinds() {
-    for kind in [0, 10, 11, 128] {
+    for kind in [0, 10, 12, 128] {
         let unknown = Record { kind, ..Record::default() };
         assert_eq!(unknown.write(&two_exchanges(), 0, &mut [0; 4]), Err(Refusal::new(No::UnknownKind)));
     }

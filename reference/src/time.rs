@@ -17,4 +17,8 @@ impl Time {
     pub const TO_CANCEL: u32 = 180_000;
     /// "... or 60,000 if we received it at or after close less 300,000."
     pub const TO_CANCEL_NEAR_CLOSE: u32 = 60_000;
+    /// "More than 180,000 ms after the claim": too late to cancel it as priced for a block that was none.
+    pub const TO_CANCEL_AS_NO_BLOCK: u32 = 180_000;
+    /// "Later than 180,000 ms after the cancellation": too late to send again.
+    pub const TO_SEND_AGAIN: u32 = 180_000;
 }

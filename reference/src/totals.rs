@@ -2,6 +2,7 @@
 
 use crate::event::{Order, Response};
 use crate::journal::{Moment, Watcher, open, walk};
+use crate::market::Market;
 use crate::refusal::Refusal;
 
 #[derive(Clone, Copy, Debug, Default, PartialEq, Eq)]
@@ -13,7 +14,7 @@ pub struct Totals {
 }
 
 impl Watcher for Totals {
-    fn sent_order(&mut self, _at: Moment, order: &Order) {
+    fn sent_order(&mut self, _at: Moment, _market: &Market, order: &Order) {
         self.sent += order.size as u64;
         self.pending += order.size as u64;
     }

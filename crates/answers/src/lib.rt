@@ -11,6 +11,7 @@ ghost use Rattle.claims.specs.Lines.{Filing};
 ghost use Rattle.list.specs.Listing.{mostRows, listWords};
 ghost use Rattle.checker.specs.Check.{checkedAs};
 ghost use Rattle.answers.specs.Answers.{answeredAs, DayPrinted};
+use claims::Line;
 use journal::Rewritten;
 use list::Row;
 use said::Checked;
@@ -29,7 +30,7 @@ fn answered(w: Written) -> Rewritten
 
 // The list of a whole journal whose tables these are, F from our own sheet.
 fn print_whole(
-    cl: &[u32; 6144],
+    cl: &[u32; Line::WORDS],
     tr: &[u32; 1024],
     trades: usize,
     lines: usize,
@@ -52,7 +53,7 @@ pub fn print_day(s: &[u8], out: &mut [u8]) -> Rewritten
 {
     let mut tr = [0u32; 1024];
     let mut snaps = [0u32; 8192];
-    let mut cl = [0u32; 6144];
+    let mut cl = [0u32; Line::WORDS];
     let mut rows = [0u32; Row::MOST * Row::WORDS];
     match survey::survey(s, &mut tr, &mut snaps, &mut cl, &mut rows) {
         Surveyed::Stopped { no, place } => Rewritten::Unwritten { no, place },
@@ -70,7 +71,7 @@ pub fn write_sheet(s: &[u8], out: &mut [u8]) -> Rewritten
 {
     let mut tr = [0u32; 1024];
     let mut snaps = [0u32; 8192];
-    let mut cl = [0u32; 6144];
+    let mut cl = [0u32; Line::WORDS];
     let mut rows = [0u32; 1];
     match survey::survey(s, &mut tr, &mut snaps, &mut cl, &mut rows) {
         Surveyed::Stopped { no, place } => Rewritten::Unwritten { no, place },
@@ -88,7 +89,7 @@ pub fn check_sheet(s: &[u8], sheet: &[u8]) -> Checked
 {
     let mut tr = [0u32; 1024];
     let mut snaps = [0u32; 8192];
-    let mut cl = [0u32; 6144];
+    let mut cl = [0u32; Line::WORDS];
     let mut rows = [0u32; 1];
     match survey::survey(s, &mut tr, &mut snaps, &mut cl, &mut rows) {
         Surveyed::Stopped { no, place } => Checked::Refused { no, place },

@@ -7,13 +7,14 @@ use native.Mathlib.Omega.{arith}
 use lib.ListN.{getD, length, set, length-set}
 use lib.Seq.{take-suc-set}
 use Rattle.rules.specs.Basics.{below}
+use Rattle.rules.specs.Limits.{mostTradeLines}
 use Rattle.claims.specs.Lines.{lineAt, numberAt, manyOf, tradeLines, ManyIs, NumberIs}
 use Rattle.claims.proofs.Lines.{trade-lines-more}
 use Rattle.claims.proofs.TradeLines.{trade-findable}
 use Rattle.checker.specs.Beside.{fillOn, FillsGathered, FillsGathering}
 
 module _ (cl said : List ℕ) (m k : ℕ) (mk : ManyIs cl m k) (fill : List ℕ) where
-  pub no-fill-gathered : length fill ≡ 8 → FillsGathering cl said m k 0 fill
+  pub no-fill-gathered : length fill ≡ mostTradeLines → FillsGathering cl said m k 0 fill
   unfolding tradeLines below
   no-fill-gathered l = record { fills = refl; low = omega arith; long = l }
 

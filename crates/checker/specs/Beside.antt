@@ -3,6 +3,7 @@ use mathlib.Core.Path.{_≡_}
 use mathlib.Core.List.{List, map}
 use Prim.Native.Nat.{ℕ, _+_, _-_, _*_, _≤_}
 use lib.ListN.{getD, length, take}
+use Rattle.rules.specs.Limits.{mostTradeLines}
 use Rattle.rules.specs.Due.{Line}
 use Rattle.rules.specs.SheetCheck.{Beside, checkLines}
 use Rattle.claims.specs.Lines.{lineAt, manyOf, tradeLines}
@@ -29,10 +30,10 @@ fillOn said l = getD said (l .number * 3 + 1) 0
 
 pub record FillsGathered (cl said : List ℕ) (m : ℕ) (fill : List ℕ) : Type 0 where
   pub fills : take (manyOf cl m) fill ≡ map (fillOn said) (tradeLines cl m (manyOf cl m))
-  pub long : length fill ≡ 8
+  pub long : length fill ≡ mostTradeLines
 
 -- the first i of them
 pub record FillsGathering (cl said : List ℕ) (m k i : ℕ) (fill : List ℕ) : Type 0 where
   pub fills : take i fill ≡ map (fillOn said) (tradeLines cl m i)
   pub low : i ≤ k
-  pub long : length fill ≡ 8
+  pub long : length fill ≡ mostTradeLines

@@ -3,13 +3,14 @@
 ghost use mathlib.Core.Path.{_≡_};
 ghost use Prim.Native.Nat.{_<_, _≤_};
 ghost use lib.ListN.{length};
-ghost use Rattle.rules.specs.Limits.{mostTrades, mostSatisfactionOrders};
+ghost use Rattle.rules.specs.Limits.{mostTrades, mostSatisfactionOrders, mostTradeLines};
 ghost use Rattle.rules.specs.SheetCheck.{checkLine, checkLines};
 ghost use Rattle.claims.specs.Lines.{Filing};
 ghost use Rattle.checker.specs.Beside.{besideAt, besides, FillsGathered};
 ghost use Rattle.checker.specs.Check.{checkedAs, LineJudged, TradeChecked, TradesChecked, CheckedAs};
 use claims::Line;
 use rows::Refusal;
+use rows::TradeLines;
 use said::Checked;
 use said::Said;
 
@@ -46,7 +47,7 @@ fn judge_line(
     Checked::Accepted
 }
 
-fn check_line(cl: &[u32; 6144], said: &[u32; 1536], i: usize) -> Checked
+fn check_line(cl: &[u32; Line::WORDS], said: &[u32; 1536], i: usize) -> Checked
     requires { ⌜ i < mostSatisfactionOrders ⌝ }
     ensures { λ r. ⌜ checkedAs r ≡ checkLine (besideAt (now (cl .entry)) (now (said .entry)) i) ⌝ }
 {
@@ -62,7 +63,7 @@ fn check_line(cl: &[u32; 6144], said: &[u32; 1536], i: usize) -> Checked
 }
 
 // "line by line"
-fn check_lines(cl: &[u32; 6144], said: &[u32; 1536], n: usize) -> Checked
+fn check_lines(cl: &[u32; Line::WORDS], said: &[u32; 1536], n: usize) -> Checked
     requires { ⌜ n ≤ mostSatisfactionOrders ⌝ }
     ensures { λ r. ⌜ checkedAs r ≡ checkLines (besides (now (cl .entry)) (now (said .entry)) n) ⌝ }
 {
@@ -77,9 +78,15 @@ fn check_lines(cl: &[u32; 6144], said: &[u32; 1536], n: usize) -> Checked
 }
 
 // What the sheet fills on trade m's lines, in their order.
-pub fn gather_fills(cl: &[u32; 6144], n: usize, said: &[u32; 1536], m: usize, fill: &mut [u32; 8])
+pub fn gather_fills(
+    cl: &[u32; Line::WORDS],
+    n: usize,
+    said: &[u32; 1536],
+    m: usize,
+    fill: &mut [u32; TradeLines::MOST],
+)
     requires { ⌜ (m < mostTrades) × Filing (now cl) n ⌝ }
-    requires { ⌜ length (now fill) ≡ 8 ⌝ }
+    requires { ⌜ length (now fill) ≡ mostTradeLines ⌝ }
     ensures { λ _. ⌜ FillsGathered (now (cl .entry)) (now (said .entry)) m (now (fill .exit)) ⌝ }
 {
     let k = claims::lines_of(cl, m);
@@ -94,7 +101,7 @@ pub fn gather_fills(cl: &[u32; 6144], n: usize, said: &[u32; 1536], m: usize, fi
 // 25, 26. The amount due is the tables' own. Fills and customer contracts are words, so that their products have room in 64 bits:
 // `fairness` takes them there.
 fn check_trade(
-    cl: &[u32; 6144],
+    cl: &[u32; Line::WORDS],
     tr: &[u32; 1024],
     n: usize,
     said: &[u32; 1536],
@@ -103,9 +110,9 @@ fn check_trade(
     requires { ⌜ (m < mostTrades) × Filing (now cl) n ⌝ }
     ensures { λ r. ⌜ TradeChecked (now (cl .entry)) (now (tr .entry)) n (now (said .entry)) m r ⌝ }
 {
-    let mut claim = [0u32; 8];
-    let mut customers = [0u32; 8];
-    let mut fill = [0u32; 8];
+    let mut claim = [0u32; TradeLines::MOST];
+    let mut customers = [0u32; TradeLines::MOST];
+    let mut fill = [0u32; TradeLines::MOST];
     let k = claims::gather(cl, m, &mut claim, &mut customers);
     gather_fills(cl, n, said, m, &mut fill);
     let filled = fairness::total(&fill, k);
@@ -127,7 +134,7 @@ fn check_trade(
 
 // "trade by trade"
 fn check_trades(
-    cl: &[u32; 6144],
+    cl: &[u32; Line::WORDS],
     tr: &[u32; 1024],
     n: usize,
     said: &[u32; 1536],
@@ -148,7 +155,7 @@ fn check_trades(
 
 // The sheet of a journal with so many trades and so many Satisfaction Orders, whose tables these are.
 pub fn check_sheet(
-    cl: &[u32; 6144],
+    cl: &[u32; Line::WORDS],
     tr: &[u32; 1024],
     trades: usize,
     n: usize,

@@ -7,12 +7,11 @@ use native.Mathlib.Omega.{arith}
 use native.Mathlib.Numerals.{add-one}
 use lib.Dec.{eqb, ltb}
 use lib.ListN.{getD, length, set, length-set}
-use lib.Seq.{getD-set-same, getD-set-other}
 use borrow.Author.Tests.{eq-eqb, ne-eqb, eqb-true, eqb-false, lt-ltb, le-ltb, ltb-true, ltb-false, not-true, not-false}
 use Rattle.rules.specs.Basics.{if_then_else_, _==_, _atMost_, _lessThan_, below, keep, sum}
-use Rattle.rules.specs.Limits.{mostTrades, mostSatisfactionOrders}
+use Rattle.rules.specs.Limits.{mostTrades, mostSatisfactionOrders, mostTradeLines}
 use Rattle.rules.specs.Header.{Header}
-use Rattle.rules.specs.Record.{Event, field, isSatisfaction, satisfactionKind, namingKind}
+use Rattle.rules.specs.Record.{Event, field, isSatisfaction, satisfactionKind, namingKind, cancellationKind}
 use Rattle.rules.specs.Journal.{History, Happened, satisfactionAt, names}
 use Rattle.rules.specs.Reasons.{minutesFrom, namesInTime}
 use Rattle.rules.specs.Due.{Line, linesOf, ofTrade, claimsOf}
@@ -20,11 +19,13 @@ use Rattle.rules.proofs.Tests.{byTest, or-left, or-right, keep-more}
 use Rattle.rules.proofs.Below.{one-more-below, same-below}
 use Rattle.rules.proofs.Histories.{count-skip, nth-skip}
 use Rattle.rules.proofs.Naming.{named, cancelled, afterNaming, lines-after}
+use Rattle.rules.proofs.Claims.{none-taken-back}
 use Rattle.rows.specs.Rows.{word}
 use Rattle.rows.specs.declared.Rec.{Rec}
-use Rattle.reasons.specs.Reasons.{inTime}
+use Rattle.reasons.specs.Reasons.{inTime, againAt}
 use Rattle.reasons.proofs.Judge.{in-time-is}
-use Rattle.claims.specs.Lines.{lineAt, linesFrom, numberAt, manyOf, sumOf, tradeLines, Told, Lined, Filing, Cancellable, clearedIn, cancelledIn, Placed, ClaimsStep}
+use Rattle.claims.specs.Lines.{partAt, manyAt, sumAt, againFrom, againWord, lineAt, linesFrom, numberAt, manyOf, sumOf, tradeLines, Told, Lined, Filing, Cancellable, clearedIn, cancelledIn, Placed, ClaimsStep}
+use Rattle.claims.proofs.Words.{others-kept, first-put, second-put, third-put}
 use Rattle.claims.proofs.Lines.{lines-skip, lines-stay}
 
 -- ---- lines, of which those with one number are cancelled
@@ -93,26 +94,11 @@ line-cancellable h past cl n k held fi low =
       long = fi .long;
     }
 
--- ---- three words put into a list
-
-module _ (words : List ℕ) (a b c x y z : ℕ) where
-  others-kept : (j : ℕ) → (j ≡ a → ⊥) → (j ≡ b → ⊥) → (j ≡ c → ⊥) → getD (set (set (set words a x) b y) c z) j 0 ≡ getD words j 0
-  others-kept j na nb nc = getD-set-other (set (set words a x) b y) c j z 0 nc ∙ getD-set-other (set words a x) b j y 0 nb ∙ getD-set-other words a j x 0 na
-
-  first-put : a < length words → (a ≡ b → ⊥) → (a ≡ c → ⊥) → getD (set (set (set words a x) b y) c z) a 0 ≡ x
-  first-put low nb nc = getD-set-other (set (set words a x) b y) c a z 0 nc ∙ getD-set-other (set words a x) b a y 0 nb ∙ getD-set-same words a x 0 low
-
-  second-put : b < length words → (b ≡ c → ⊥) → getD (set (set (set words a x) b y) c z) b 0 ≡ y
-  second-put low nc = getD-set-other (set (set words a x) b y) c b z 0 nc ∙ getD-set-same (set words a x) b y 0 (simp length-set low)
-
-  third-put : c < length words → getD (set (set (set words a x) b y) c z) c 0 ≡ z
-  third-put low = getD-set-same (set (set words a x) b y) c z 0 (simp length-set low)
-
 -- ---- the words of the table, with one order cancelled in time
 
 -- where the sum of its trade's claims stands, and what is left of it
 abbrev sumWord : List ℕ → ℕ → ℕ
-sumWord cl k = (640 + getD cl (k * 8 + 0) 0) * 8 + 1
+sumWord cl k = sumAt (getD cl (k * 8 + 0) 0)
 
 abbrev leftOver : List ℕ → ℕ → ℕ
 leftOver cl k = getD cl (sumWord cl k) 0 - getD cl (k * 8 + 4) 0
@@ -184,6 +170,8 @@ module _ (cl : List ℕ) (k : ℕ) (able : Cancellable cl k) where
   told-cleared : (i : ℕ) → i < mostSatisfactionOrders → {order : Happened} → Told cl i order → Told (clearedIn cl k) i order
   told-cleared i hi t =
       record {
+        is-order = t .is-order;
+        trade = fact-kept i 0 hi (omega arith) refl ∙ t .trade;
         sender = fact-kept i 5 hi (omega arith) refl ∙ t .sender;
         asked = fact-kept i 6 hi (omega arith) refl ∙ t .asked;
         time = fact-kept i 7 hi (omega arith) refl ∙ t .time;
@@ -191,11 +179,11 @@ module _ (cl : List ℕ) (k : ℕ) (able : Cancellable cl k) where
 
   many-kept : (m : ℕ) → manyOf (clearedIn cl k) m ≡ manyOf cl m
   unfolding manyOf
-  many-kept m = word-kept ((640 + m) * 8) (λ z. omega arith) (λ z. omega (arith, able .line)) (λ z. omega (arith, able .line))
+  many-kept m = word-kept (manyAt m) (λ z. omega arith) (λ z. omega (arith, able .line)) (λ z. omega (arith, able .line))
 
-  number-kept : (m i : ℕ) → m < mostTrades → i < 8 → numberAt (clearedIn cl k) m i ≡ numberAt cl m i
+  number-kept : (m i : ℕ) → m < mostTrades → i < mostTradeLines → numberAt (clearedIn cl k) m i ≡ numberAt cl m i
   unfolding numberAt
-  number-kept m i hm hi = word-kept ((512 + m) * 8 + i) (λ z. omega arith) (λ z. omega (arith, able .line)) (λ z. omega (arith, able .line))
+  number-kept m i hm hi = word-kept (partAt m + i) (λ z. omega arith) (λ z. omega (arith, able .line)) (λ z. omega (arith, able .line))
 
   sum-cleared-of : (m : ℕ) → sumOf (clearedIn cl k) m ≡ sumOf cl m - (if getD cl (k * 8 + 0) 0 == m then getD cl (k * 8 + 4) 0 else 0)
   unfolding sumOf
@@ -203,8 +191,11 @@ module _ (cl : List ℕ) (k : ℕ) (able : Cancellable cl k) where
       byTest (getD cl (k * 8 + 0) 0 == m)
       (λ t. rw (t, ← eqb-true (getD cl (k * 8 + 0) 0) m t) sum-word)
       (λ t. rw t
-      (word-kept ((640 + m) * 8 + 1) (λ z. eqb-false (getD cl (k * 8 + 0) 0) m t (omega arith)) (λ z. omega (arith, able .line)) (λ z. omega (arith, able .line))
+      (word-kept (sumAt m) (λ z. eqb-false (getD cl (k * 8 + 0) 0) m t (omega arith)) (λ z. omega (arith, able .line)) (λ z. omega (arith, able .line))
       ∙ omega arith))
+
+  again-kept : (j : ℕ) → againFrom ≤ j → getD (clearedIn cl k) j 0 ≡ getD cl j 0
+  again-kept j hj = word-kept j (λ z. omega (arith, able .trade)) (λ z. omega (arith, able .line)) (λ z. omega (arith, able .line))
 
   length-cleared : length (clearedIn cl k) ≡ length cl
   unfolding clearedIn
@@ -213,11 +204,13 @@ module _ (cl : List ℕ) (k : ℕ) (able : Cancellable cl k) where
   filing-cleared : (n : ℕ) → Filing cl n → Filing (clearedIn cl k) n
   filing-cleared n fi =
       record {
-        eight = λ m hm. rw (many-kept m) (fi .eight m hm);
+        few-lines = λ m hm. rw (many-kept m) (fi .few-lines m hm);
         earlier =
             λ m i hm hi. let old : i < manyOf cl m = rw (← many-kept m) hi in
-            rw (number-kept m i hm (omega (arith, fi .eight m hm))) (fi .earlier m i hm old);
+            rw (number-kept m i hm (omega (arith, fi .few-lines m hm))) (fi .earlier m i hm old);
         of-trades = λ i hi. rw (fact-kept i 0 (omega (arith, fi .few)) (omega arith) refl) (fi .of-trades i hi);
+        from-one = λ i hi. rw (fact-kept i 5 (omega (arith, fi .few)) (omega arith) refl) (fi .from-one i hi);
+        to-most = λ i hi. rw (fact-kept i 5 (omega (arith, fi .few)) (omega arith) refl) (fi .to-most i hi);
         small = λ m hm. omega (arith, sum-cleared-of m, fi .small m hm);
         few = fi .few;
         long = length-cleared ∙ fi .long;
@@ -234,7 +227,7 @@ module _ (cl : List ℕ) (k : ℕ) (able : Cancellable cl k) where
   trade-lines-cleared n m hm fi =
       rw (many-kept m)
       (same-below (λ i. lineAt (clearedIn cl k) (numberAt (clearedIn cl k) m i)) (λ i. clearing k (lineAt cl (numberAt cl m i))) (manyOf cl m)
-      (λ i hi. ap (lineAt (clearedIn cl k)) (number-kept m i hm (omega (arith, fi .eight m hm)))
+      (λ i hi. ap (lineAt (clearedIn cl k)) (number-kept m i hm (omega (arith, fi .few-lines m hm)))
       ∙ line-cleared (numberAt cl m i) (omega (arith, fi .earlier m i hm hi, fi .few)))
       ∙ sym (map-map (clearing k) (λ i. lineAt cl (numberAt cl m i)) (below (manyOf cl m))))
 
@@ -244,6 +237,9 @@ module _ (h : Header) (past : History) (cl : List ℕ) (n : ℕ) (held : Lined h
     (order-is : field e 0 ≡ k) (low : k < n) (close : ℕ) (closes : h .close ≡ close) where
   no-satisfaction : e .kind ≡ satisfactionKind → ⊥
   no-satisfaction q = omega arith
+
+  no-cancellation : e .kind ≡ cancellationKind → ⊥
+  no-cancellation q = omega arith
 
   -- the order named was received at the time that its row keeps
   time-test : (e .time atMost (satisfactionAt k past .time + minutesFrom h (satisfactionAt k past .time))) ≡ inTime (getD cl (k * 8 + 7) 0) close (e .time)
@@ -289,12 +285,15 @@ module _ (h : Header) (past : History) (cl : List ℕ) (n : ℕ) (held : Lined h
           told =
               λ i hi. rw (nth-skip isSatisfaction i e past (rw (ne-eqb (e .kind) satisfactionKind no-satisfaction)))
               (told-cleared cl k able i (omega (arith, fi .few)) (held .told i hi));
+          again =
+              λ m y hm hy. again-kept cl k able (againWord m y) (omega arith) ∙ held .again m y hm hy
+              ∙ ap againAt (sym (none-taken-back m (y + 1) e past (ne-eqb (e .kind) cancellationKind no-cancellation)));
         }
 
   pub lined-late : inTime (getD cl (k * 8 + 7) 0) close (e .time) ≡ false → Lined h (e ∷ past) cl n
   unfolding linesFrom
   lined-late t =
-      lines-stay h past cl n e no-satisfaction
+      lines-stay h past cl n e no-satisfaction no-cancellation
       (all-after ∙ same-below (λ i. afterNaming h e past (lineAt cl i)) (lineAt cl) n (λ i hi. line-after i ∙ rw t) ∙ held .lines)
       held
 
@@ -302,12 +301,12 @@ module _ (h : Header) (past : History) (cl : List ℕ) (n : ℕ) (held : Lined h
 
 module _ (cl : List ℕ) (k : ℕ) (able : Cancellable cl k) where
   module _ (m : ℕ) (em : (m ≡ getD cl (k * 8 + 0) 0) × (m < 4294967296)) where
-    pub claim-in-its-sum : getD cl (k * 8 + 4) 0 ≤ getD cl ((640 + m) * 8 + 1) 0
+    pub claim-in-its-sum : getD cl (k * 8 + 4) 0 ≤ getD cl (sumAt m) 0
     unfolding sumOf
     claim-in-its-sum = rw (em .0) (able .claimed)
 
     pub cleared-so : (close now : ℕ) (b : Bool) → b ≡ inTime (getD cl (k * 8 + 7) 0) close now → not b ≡ false → (why : ℕ) → why ≡ named (getD cl (k * 8 + 2) 0)
-        → set (set (set cl ((640 + m) * 8 + 1) (getD cl ((640 + m) * 8 + 1) 0 - getD cl (k * 8 + 4) 0)) (k * 8 + 2) why) (k * 8 + 4) 0 ≡ cancelledIn cl k close now
+        → set (set (set cl (sumAt m) (getD cl (sumAt m) 0 - getD cl (k * 8 + 4) 0)) (k * 8 + 2) why) (k * 8 + 4) 0 ≡ cancelledIn cl k close now
     unfolding clearedIn cancelledIn
     cleared-so close now b eb t why ew = rw (em .0, ew, ← eb, not-false b t)
 

@@ -8,11 +8,12 @@ use lib.ListN.{getD, replicate, length-replicate}
 use Rattle.rules.specs.Basics.{below, keep, sum, bit}
 use Rattle.rules.specs.Header.{Header}
 use Rattle.rules.specs.Record.{trade}
-use Rattle.rules.specs.Journal.{History, count, tradeAt, beforeTrade}
+use Rattle.rules.specs.Journal.{History, count, tradeAt, beforeTrade, takenBack}
 use Rattle.rules.specs.Due.{capped, linesOf, lines, ofTrade, claimsOf, dueOf, due}
 use Rattle.rules.proofs.Tests.{replicate-at}
 use Rattle.trades.specs.Trades.{tradeRow, Traded}
-use Rattle.claims.specs.Lines.{linesFrom, manyOf, sumOf, tradeLines, Lined, Filing, DueIs}
+use Rattle.reasons.specs.Reasons.{againAt}
+use Rattle.claims.specs.Lines.{manyAt, sumAt, againWord, lineWords, linesFrom, manyOf, sumOf, tradeLines, Lined, Filing, DueIs}
 
 bit-one : (b : Bool) → bit b ≡ 1 → b ≡ true
 bit-one true p = refl
@@ -33,38 +34,38 @@ module _ (cl tr : List ℕ) (m : ℕ) where
     unfolding tradeRow
     size-word = tv .rows m 1 hm (omega arith)
 
-    sum-word : getD cl ((640 + m) * 8 + 1) 0 ≡ sum (claimsOf (ofTrade m (linesOf h past past)))
+    sum-word : getD cl (sumAt m) 0 ≡ sum (claimsOf (ofTrade m (linesOf h past past)))
     unfolding sumOf
     sum-word = held .sums m few
 
-    due-capped : getD tr (m * 8 + 6) 0 ≡ 1 → min (getD tr (m * 8 + 1) 0) (getD cl ((640 + m) * 8 + 1) 0) ≡ due (record { header = h; history = past }) m
+    due-capped : getD tr (m * 8 + 6) 0 ≡ 1 → min (getD tr (m * 8 + 1) 0) (getD cl (sumAt m) 0) ≡ due (record { header = h; history = past }) m
     unfolding due dueOf lines
     due-capped p = rw (bit-one (capped h (beforeTrade m past) (trade (tradeAt m past))) (sym cap-word ∙ p), size-word, sum-word)
 
-    due-whole : (getD tr (m * 8 + 6) 0 ≡ 1 → ⊥) → getD cl ((640 + m) * 8 + 1) 0 ≡ due (record { header = h; history = past }) m
+    due-whole : (getD tr (m * 8 + 6) 0 ≡ 1 → ⊥) → getD cl (sumAt m) 0 ≡ due (record { header = h; history = past }) m
     unfolding due dueOf lines
     due-whole p = rw (bit-not-one (capped h (beforeTrade m past) (trade (tradeAt m past))) (λ q. p (cap-word ∙ q)), sum-word)
 
-  pub capped-due : getD tr (m * 8 + 6) 0 ≡ 1 → (r : ℕ) → r ≡ min (getD tr (m * 8 + 1) 0) (getD cl ((640 + m) * 8 + 1) 0) → DueIs cl tr m r
+  pub capped-due : getD tr (m * 8 + 6) 0 ≡ 1 → (r : ℕ) → r ≡ min (getD tr (m * 8 + 1) 0) (getD cl (sumAt m) 0) → DueIs cl tr m r
   capped-due p r e = record { so = λ h past sn trades n hm few tv held. e ∙ due-capped h past sn trades n hm few tv held p }
 
-  pub whole-due : (getD tr (m * 8 + 6) 0 ≡ 1 → ⊥) → DueIs cl tr m (getD cl ((640 + m) * 8 + 1) 0)
+  pub whole-due : (getD tr (m * 8 + 6) 0 ≡ 1 → ⊥) → DueIs cl tr m (getD cl (sumAt m) 0)
   whole-due p = record { so = λ h past sn trades n hm few tv held. due-whole h past sn trades n hm few tv held p }
 
 pub ruleset due-laws = (capped-due, whole-due)
 
 -- ---- the start
 
-none-of-trade : (m : ℕ) → _≡_ {A = ℕ} (manyOf (replicate 6144 0) m) 0
+none-of-trade : (m : ℕ) → _≡_ {A = ℕ} (manyOf (replicate lineWords 0) m) 0
 unfolding manyOf
-none-of-trade m = replicate-at {A = ℕ} 6144 ((640 + m) * 8) 0
+none-of-trade m = replicate-at {A = ℕ} lineWords (manyAt m) 0
 
-none-claimed : (m : ℕ) → _≡_ {A = ℕ} (sumOf (replicate 6144 0) m) 0
+none-claimed : (m : ℕ) → _≡_ {A = ℕ} (sumOf (replicate lineWords 0) m) 0
 unfolding sumOf
-none-claimed m = replicate-at {A = ℕ} 6144 ((640 + m) * 8 + 1) 0
+none-claimed m = replicate-at {A = ℕ} lineWords (sumAt m) 0
 
-pub lines-none : (h : Header) → Lined h [] (replicate 6144 0) 0
-unfolding linesFrom linesOf below count keep ofTrade sum tradeLines
+pub lines-none : (h : Header) → Lined h [] (replicate lineWords 0) 0
+unfolding linesFrom linesOf below count keep ofTrade sum tradeLines takenBack againAt
 lines-none h =
     record {
       numbered = refl;
@@ -72,15 +73,18 @@ lines-none h =
       by-trade = λ m hm. rw (none-of-trade m);
       sums = λ m hm. none-claimed m;
       told = λ i hi. let z : ⊥ = omega arith in elim z [ ];
+      again = λ m y hm hy. replicate-at {A = ℕ} lineWords (againWord m y) 0;
     }
 
-pub nothing-filed : Filing (replicate 6144 0) 0
+pub nothing-filed : Filing (replicate lineWords 0) 0
 nothing-filed =
     record {
-      eight = λ m h. omega (arith, none-of-trade m);
+      few-lines = λ m h. omega (arith, none-of-trade m);
       earlier = λ m i h g. let z : ⊥ = omega (arith, none-of-trade m) in elim z [ ];
       of-trades = λ i h. let z : ⊥ = omega arith in elim z [ ];
+      from-one = λ i h. let z : ⊥ = omega arith in elim z [ ];
+      to-most = λ i h. let z : ⊥ = omega arith in elim z [ ];
       small = λ m h. omega (arith, none-claimed m);
       few = omega arith;
-      long = length-replicate {A = ℕ} 6144 0;
+      long = length-replicate {A = ℕ} lineWords 0;
     }

@@ -4,16 +4,16 @@ use mathlib.Core.Bool.{false}
 use mathlib.Core.List.{List}
 use Prim.Native.Nat.{ℕ, _+_, _-_, _*_, _<_, _≤_}
 use native.Mathlib.Omega.{arith}
-use lib.ListN.{getD}
+use lib.ListN.{getD, length}
 use Rattle.rules.specs.Basics.{any}
 use Rattle.rules.specs.Header.{Header}
 use Rattle.rules.specs.Record.{Event, satisfaction}
-use Rattle.rules.specs.Journal.{History, tradeAt, beforeTrade}
+use Rattle.rules.specs.Journal.{History, tradeAt, beforeTrade, takenBack}
 use Rattle.rules.specs.Prices.{statusOf}
-use Rattle.rules.specs.Reasons.{Case, caseOf, customers, namesInTime, reason}
+use Rattle.rules.specs.Reasons.{Case, caseOf, customers, sentAgainAfter, namesInTime, reason}
 use Rattle.rules.specs.Due.{claim}
 use Rattle.trades.specs.Trades.{snap, snapAt, Traded}
-use Rattle.reasons.specs.Reasons.{reasonOf, claimOf}
+use Rattle.reasons.specs.Reasons.{againAt, reasonOf, claimOf}
 use Rattle.reasons.proofs.Judge.{factsIn, reason-words, customers-words, claim-words}
 use Rattle.claims.specs.Facts.{factsOf}
 
@@ -23,7 +23,7 @@ status-word e before y = refl
 
 -- the case of a Satisfaction Order for trade m
 abbrev caseAt : History → History → ℕ → Event → ℕ → Case
-caseAt day past n e m = record { number = n; claim = e; trade = tradeAt m past; before = beforeTrade m past; day = day }
+caseAt day past n e m = record { number = n; claim = e; past = past; trade = tradeAt m past; before = beforeTrade m past; day = day }
 
 module _ (h : Header) (day past : History) (n : ℕ) (tr sn : List ℕ) (trades m y home : ℕ) (held : Traded h past tr sn trades) (hm : m < trades)
     (hy : y < h .exchanges) (eh : h .home ≡ home) (low : 1 ≤ home) (high : home ≤ h .exchanges)
@@ -32,10 +32,18 @@ module _ (h : Header) (day past : History) (n : ℕ) (tr sn : List ℕ) (trades 
   unfolding caseOf
   case-is = rw et
 
-  pub facts-are : (close asked now : ℕ) → h .close ≡ close → (satisfaction e) .price ≡ asked → e .time ≡ now
-      → factsOf tr sn m y home close asked now ≡ factsIn h (caseAt day past n e m) y
+  again-is : againAt (sentAgainAfter (caseAt day past n e m)) ≡ againAt (takenBack m (y + 1) past)
+  unfolding sentAgainAfter
+  again-is = rw (et, es)
+
+  few-again : length (takenBack m (y + 1) past) ≤ 1 → length (sentAgainAfter (caseAt day past n e m)) ≤ 1
+  unfolding sentAgainAfter
+  few-again few = rw (et, es) few
+
+  pub facts-are : (close asked now again : ℕ) → h .close ≡ close → (satisfaction e) .price ≡ asked → e .time ≡ now → again ≡ againAt (takenBack m (y + 1) past)
+      → factsOf tr sn m y home close asked now again ≡ factsIn h (caseAt day past n e m) y
   unfolding factsOf
-  facts-are close asked now ec ea en =
+  facts-are close asked now again ec ea en eg =
       let home-status : getD sn ((m * 8 + (home - 1)) * 8 + 3) 0 ≡ statusOf (h .home) (beforeTrade m past) =
       held .snaps m (home - 1) 3 hm (omega arith) (omega arith) ∙ status-word (tradeAt m past) (beforeTrade m past) (home - 1)
       ∙ ap (λ (x : ℕ). statusOf x (beforeTrade m past)) (omega arith) in
@@ -54,12 +62,15 @@ module _ (h : Header) (day past : History) (n : ℕ) (tr sn : List ℕ) (trades 
         ← ec,
         ← ea,
         ← en,
+        eg,
+        ← again-is,
       )
 
-  pub reason-is : any (namesInTime h n e) day ≡ false → (close asked now : ℕ) → h .close ≡ close → (satisfaction e) .price ≡ asked → e .time ≡ now
-      → reasonOf (factsOf tr sn m y home close asked now) ≡ reason h (caseOf day past n e)
-  reason-is stands close asked now ec ea en =
-      rw (facts-are close asked now ec ea en, case-is) (sym (reason-words h (caseAt day past n e m) y es stands))
+  pub reason-is : any (namesInTime h n e) day ≡ false → length (takenBack m (y + 1) past) ≤ 1
+      → (close asked now again : ℕ) → h .close ≡ close → (satisfaction e) .price ≡ asked → e .time ≡ now → again ≡ againAt (takenBack m (y + 1) past)
+      → reasonOf (factsOf tr sn m y home close asked now again) ≡ reason h (caseOf day past n e)
+  reason-is stands few close asked now again ec ea en eg =
+      rw (facts-are close asked now again ec ea en eg, case-is) (sym (reason-words h (caseAt day past n e m) y es (few-again few) stands))
 
   pub customers-are : getD sn ((m * 8 + y) * 8 + 2) 0 ≡ customers (caseOf day past n e)
   customers-are = rw (held .snaps m y 2 hm hy (omega arith), case-is) (sym (customers-words h (caseAt day past n e m) y es))

@@ -6,12 +6,12 @@ use Prim.Native.Nat.{ℕ, _+_, _-_, _*_, _<_, _≤_}
 use native.Mathlib.Omega.{arith}
 use lib.Dec.{eqb}
 use lib.ListN.{getD, length, set, length-set}
-use lib.Seq.{getD-set-same, getD-set-other}
 use borrow.Author.Tests.{eq-eqb, ne-eqb, eqb-true, eqb-false}
 use Rattle.rules.specs.Basics.{if_then_else_, _==_, any, keep, sum}
+use Rattle.rules.specs.Limits.{mostExchanges, mostSatisfactionOrders, mostTradeLines}
 use Rattle.rules.specs.Header.{Header}
-use Rattle.rules.specs.Record.{Event, field, satisfaction, isSatisfaction, satisfactionKind, namingKind}
-use Rattle.rules.specs.Journal.{History, Happened, count, nth, names}
+use Rattle.rules.specs.Record.{Event, field, satisfaction, isSatisfaction, satisfactionKind, namingKind, cancellationKind}
+use Rattle.rules.specs.Journal.{History, Happened, count, nth, names, takenBack}
 use Rattle.rules.specs.Reasons.{caseOf, customers, namesInTime, reason}
 use Rattle.rules.specs.Due.{leastOf, Line, lineOf, linesOf, ofTrade, claimsOf, claim}
 use Rattle.rules.proofs.Tests.{byTest, keep-more}
@@ -19,15 +19,18 @@ use Rattle.rules.proofs.Below.{one-more-below, same-below}
 use Rattle.rules.proofs.Histories.{count-cons, count-skip, nth-skip, nth-older, nth-new}
 use Rattle.rules.proofs.Journals.{Arrived}
 use Rattle.rules.proofs.Lines.{limited-at-most}
-use Rattle.rules.proofs.Naming.{lines-kept, not-cancelled-in-time, none-cancelled-ahead}
+use Rattle.rules.proofs.Naming.{lines-kept, not-cancelled-in-time}
+use Rattle.rules.proofs.Claims.{not-named, none-taken-back, none-cancelled-ahead, taken-back-at-most-once}
 use Rattle.rows.specs.Rows.{Reads, word, Put, RecOk}
 use Rattle.rows.specs.declared.Rec.{Rec}
+use Rattle.rows.proofs.Rows.{behind-row-kept}
 use Rattle.orders.specs.Orders.{Headed, Heads}
 use Rattle.trades.specs.Trades.{Traded}
 use Rattle.reasons.specs.declared.Facts.{Facts}
-use Rattle.reasons.specs.Reasons.{reasonOf, claimOf}
+use Rattle.reasons.specs.Reasons.{againAt, reasonOf, claimOf}
 use Rattle.claims.specs.Facts.{factsOf}
-use Rattle.claims.specs.Lines.{lineAt, linesFrom, numberAt, manyOf, sumOf, tradeLines, Told, Lined, Filing, Fileable, Filed, Cancellable, Placed, ClaimsStep}
+use Rattle.claims.specs.Lines.{partWords, partAt, manyAt, sumAt, againFrom, againWord, lineWords, lineAt, linesFrom, numberAt, manyOf, sumOf, tradeLines, Told, Lined, Filing, Fileable, Filed, Cancellable, Placed, ClaimsStep}
+use Rattle.claims.proofs.Words.{others-kept, first-put, second-put, third-put}
 use Rattle.claims.proofs.Facts.{reason-is, customers-are, claim-is}
 
 -- ---- one line more at the end
@@ -88,9 +91,6 @@ module _ (h : Header) (day past : History) (i : ℕ) (e : Event) (a : ℕ) where
   unfolding lineOf
   in-another ls s p q = rw q (p ∙ sym (append-nil ls))
 
-same-trade : (a y m z : ℕ) → y < 8 → z < 8 → a * 8 + y ≡ m * 8 + z → a ≡ m
-same-trade a y m z hy hz e = omega arith
-
 -- ---- a record of another kind
 
 pub lines-skip : (h : Header) (e : Event) (past : History) → (e .kind ≡ satisfactionKind → ⊥) → linesOf h (e ∷ past) (e ∷ past) ≡ linesOf h (e ∷ past) past
@@ -98,9 +98,9 @@ unfolding linesOf
 lines-skip h e past ne = rw (ne-eqb (e .kind) satisfactionKind ne) (append-nil (linesOf h (e ∷ past) past))
 
 -- the table as it was, where the lines are
-pub lines-stay : (h : Header) (past : History) (cl : List ℕ) (n : ℕ) (e : Event) → (e .kind ≡ satisfactionKind → ⊥)
+pub lines-stay : (h : Header) (past : History) (cl : List ℕ) (n : ℕ) (e : Event) → (e .kind ≡ satisfactionKind → ⊥) → (e .kind ≡ cancellationKind → ⊥)
     → linesOf h (e ∷ past) (e ∷ past) ≡ linesOf h past past → Lined h past cl n → Lined h (e ∷ past) cl n
-lines-stay h past cl n e ne all-same held =
+lines-stay h past cl n e ne nc all-same held =
     let same = sym all-same in
     record {
       numbered = held .numbered ∙ sym (count-skip isSatisfaction e past (ne-eqb (e .kind) satisfactionKind ne));
@@ -108,12 +108,13 @@ lines-stay h past cl n e ne all-same held =
       by-trade = λ m hm. held .by-trade m hm ∙ ap (ofTrade m) same;
       sums = λ m hm. held .sums m hm ∙ ap (λ (l : List Line). sum (claimsOf (ofTrade m l))) same;
       told = λ i hi. rw (nth-skip isSatisfaction i e past (rw (ne-eqb (e .kind) satisfactionKind ne))) (held .told i hi);
+      again = λ m y hm hy. held .again m y hm hy ∙ ap againAt (sym (none-taken-back m (y + 1) e past (ne-eqb (e .kind) cancellationKind nc)));
     }
 
 lines-alone : (h : Header) (past : History) (cl : List ℕ) (n : ℕ) (e : Event) → (e .kind ≡ satisfactionKind → ⊥) → (e .kind ≡ namingKind → ⊥)
-    → Lined h past cl n → Lined h (e ∷ past) cl n
-lines-alone h past cl n e ns nn held =
-    lines-stay h past cl n e ns
+    → (e .kind ≡ cancellationKind → ⊥) → Lined h past cl n → Lined h (e ∷ past) cl n
+lines-alone h past cl n e ns nn nc held =
+    lines-stay h past cl n e ns nc
     (lines-skip h e past ns ∙ lines-kept h e past past (ne-eqb (e .kind) namingKind nn))
     held
 
@@ -149,56 +150,64 @@ unfolding claimOf
 claim-at-most-size why size contracts traded closing =
     byTest (eqb why 0) (λ z. rw z (omega (arith, limited-at-most (eqb closing 1) (leastOf size contracts traded)))) (λ z. rw z (omega arith))
 
--- ---- the three stores of a line
+-- ---- a line's row and the three words of its trade
 
-module _ (cl c1 c3 row : List ℕ) (n m k w : ℕ) (able : Fileable cl row n m) (first : Put cl c1 row n 8) (ek : (k ≡ getD cl ((640 + m) * 8) 0) × (k < 4294967296)) (ew : w ≡ n)
-    (last : Put (set c1 ((512 + m) * 8 + k) w) c3
-    ((getD cl ((640 + m) * 8) 0 + 1) ∷ (getD cl ((640 + m) * 8 + 1) 0 + getD row 4 0) ∷ 0 ∷ 0 ∷ 0 ∷ 0 ∷ 0 ∷ 0 ∷ []) (640 + m) 8) where
-  few : k < 8
-  few = omega (arith, able .eighth, ek .0)
+module _ (cl c1 row : List ℕ) (n m k w : ℕ) (able : Fileable cl row n m) (first : Put cl c1 row n 8)
+    (ek : (k ≡ getD cl (manyAt m) 0) × (k < 4294967296)) (ew : w ≡ n) where
+  abbrev many : ℕ
+  many = getD cl (manyAt m) 0 + 1
 
-  long-1 : length c1 ≡ 6144
+  abbrev claims : ℕ
+  claims = getD cl (sumAt m) 0 + getD row 4 0
+
+  abbrev filed : List ℕ
+  filed = set (set (set c1 (partAt m + k) w) (manyAt m) many) (sumAt m) claims
+
+  few : k < mostTradeLines
+  few = omega (arith, able .line-left, ek .0)
+
+  long-1 : length c1 ≡ lineWords
   long-1 = first .long ∙ able .long
 
-  -- a word of a row that is none of the three
-  kept : (q i : ℕ) → i < 8 → (q ≡ n → ⊥) → (q ≡ 640 + m → ⊥) → (q * 8 + i ≡ (512 + m) * 8 + k → ⊥) → getD c3 (q * 8 + i) 0 ≡ getD cl (q * 8 + i) 0
-  kept q i hi no-line no-sum no-number =
-      last .others q i hi no-sum
-      ∙ getD-set-other c1 ((512 + m) * 8 + k) (q * 8 + i) w 0 no-number
-      ∙ first .others q i hi no-line
+  kept : (j : ℕ) → (j ≡ partAt m + k → ⊥) → (j ≡ manyAt m → ⊥) → (j ≡ sumAt m → ⊥) → getD filed j 0 ≡ getD c1 j 0
+  kept = others-kept c1 (partAt m + k) (manyAt m) (sumAt m) w many claims
 
-  line-word : (i : ℕ) → i < 8 → getD c3 (n * 8 + i) 0 ≡ getD row i 0
-  line-word i hi =
-      last .others n i hi (λ z. omega arith)
-      ∙ getD-set-other c1 ((512 + m) * 8 + k) (n * 8 + i) w 0 (λ z. omega arith)
-      ∙ first .here i hi
+  row-word : (q i : ℕ) → q < mostSatisfactionOrders → i < 8 → getD filed (q * 8 + i) 0 ≡ getD c1 (q * 8 + i) 0
+  row-word q i hq hi = kept (q * 8 + i) (λ z. omega arith) (λ z. omega arith) (λ z. omega arith)
 
-  number-word : getD c3 ((512 + m) * 8 + k) 0 ≡ n
-  number-word =
-      last .others (512 + m) k few (λ z. omega arith)
-      ∙ getD-set-same c1 ((512 + m) * 8 + k) w 0 (omega (arith, long-1, few)) ∙ ew
+  -- a word of a part that is none of the three
+  part-word : (q i : ℕ) → i < partWords → (q ≡ m → (i ≡ k → ⊥) × (i < mostTradeLines)) → getD filed (partAt q + i) 0 ≡ getD cl (partAt q + i) 0
+  part-word q i hi apart =
+      kept (partAt q + i)
+      (λ z. let same : q ≡ m = omega (arith, few) in apart same .0 (omega arith))
+      (λ z. let same : q ≡ m = omega arith in let low = apart same .1 in omega arith)
+      (λ z. let same : q ≡ m = omega arith in let low = apart same .1 in omega arith)
+      ∙ behind-row-kept cl c1 row n (partAt q + i) first (omega (arith, able .line))
 
-  pub line-filed : Filed cl c3 row n m
+  pub line-filed : Filed cl filed row n m
   unfolding numberAt manyOf sumOf
   line-filed =
       record {
-        here = line-word;
-        others = λ q i hq hi ne. kept q i hi ne (λ z. omega arith) (λ z. omega (arith, few));
-        number-here = rw (← ek .0) number-word;
-        number-other =
-            λ q i hq hi ne. kept (512 + q) i hi (λ z. omega arith) (λ z. omega arith)
-            (λ z. let same : q ≡ m = same-trade q i m k hi few (omega arith) in ne same (omega (arith, ek .0)));
-        many-here = first-word c3 (640 + m) ∙ last .here 0 (omega arith);
-        many-other =
-            λ q ne. first-word c3 (640 + q) ∙ kept (640 + q) 0 (omega arith) (λ z. omega arith) (λ z. ne (omega arith)) (λ z. omega (arith, few))
-            ∙ sym (first-word cl (640 + q));
-        sum-here = last .here 1 (omega arith);
-        sum-other = λ q ne. kept (640 + q) 1 (omega arith) (λ z. omega arith) (λ z. ne (omega arith)) (λ z. omega (arith, few));
-        same-length = last .long ∙ simp length-set (first .long);
+        here = λ i hi. row-word n i (able .line) hi ∙ first .here i hi;
+        others = λ q i hq hi ne. row-word q i hq hi ∙ first .others q i hi ne;
+        number-here =
+            ap (λ (i : ℕ). getD filed (partAt m + i) 0) (sym (ek .0))
+            ∙ first-put c1 (partAt m + k) (manyAt m) (sumAt m) w many claims
+            (omega (arith, long-1, few, able .trade))
+            (λ z. omega (arith, few))
+            (λ z. omega (arith, few))
+            ∙ ew;
+        number-other = λ q i hq hi ne. part-word q i (omega arith) (λ same. (λ z. ne same (omega (arith, ek .0)), hi));
+        many-here =
+            second-put c1 (partAt m + k) (manyAt m) (sumAt m) w many claims (omega (arith, long-1, able .trade)) (λ z. omega arith);
+        many-other = λ q ne. part-word q mostTradeLines (omega arith) (λ same. absurd (ne same));
+        sum-here = third-put c1 (partAt m + k) (manyAt m) (sumAt m) w many claims (omega (arith, long-1, able .trade));
+        sum-other = λ q ne. part-word q (mostTradeLines + 1) (omega arith) (λ same. absurd (ne same));
+        behind =
+            λ j hj. kept j (λ z. omega (arith, few, able .trade)) (λ z. omega (arith, able .trade)) (λ z. omega (arith, able .trade))
+            ∙ behind-row-kept cl c1 row n j first (omega (arith, able .line));
+        same-length = simp length-set (first .long);
       }
-    where
-      first-word : (l : List ℕ) (q : ℕ) → getD l (q * 8) 0 ≡ getD l (q * 8 + 0) 0
-      first-word l q = ap (λ (j : ℕ). getD l j 0) (omega arith)
 
 -- the trade and the sender that a Satisfaction Order names
 module _ (r : Rec) (cl : List ℕ) (trades exchanges n : ℕ) (pl : Placed r cl trades exchanges n) (kind : r .kind ≡ satisfactionKind) where
@@ -208,6 +217,10 @@ module _ (r : Rec) (cl : List ℕ) (trades exchanges n : ℕ) (pl : Placed r cl 
 
     pub trade-word-known : (i : ℕ) → i < 8 → m * 8 + i < 1024
     trade-word-known i h = omega (arith, trade-known)
+
+    -- the word of the trade and its sender
+    pub again-word-known : (x : ℕ) → (x ≡ word r 1) × (x < 4294967296) → (home : ℕ) → Headed exchanges home → againFrom + (m * 8 + (x - 1)) < lineWords
+    again-word-known x ex home head = omega (arith, trade-known, ex .0, pl .fields kind .sender .to-n, head .few)
 
   module _ (x : ℕ) (ex : (x ≡ word r 1) × (x < 4294967296)) where
     pub sender-from-one : 1 ≤ x
@@ -222,10 +235,10 @@ module _ (r : Rec) (home exchanges close : ℕ) (tr sn : List ℕ) (trades : ℕ
   trade-low : m < 128
   trade-low = trade-known r cl trades exchanges n pl kind ht m em
 
-  eighth-left : manyOf cl m < 8
-  eighth-left = rw (em .0) (pl .first kind)
+  line-left : manyOf cl m < mostTradeLines
+  line-left = rw (em .0) (pl .first kind)
 
-  module _ (k : Facts) (ek : k ≡ factsOf tr sn m (x - 1) home close (word r 2) (r .time)) (why : ℕ) (ew : why ≡ reasonOf k)
+  module _ (again : ℕ) (eg : again ≡ getD cl (againWord m (x - 1)) 0) (k : Facts) (ek : k ≡ factsOf tr sn m (x - 1) home close (word r 2) (r .time) again) (why : ℕ) (ew : why ≡ reasonOf k)
       (due : ℕ) (ed : due ≡ claimOf why (word r 3) (k .customers) (getD tr (m * 8 + 1) 0) (getD tr (m * 8 + 7) 0)) where
     claim-small : due ≤ 100000
     claim-small = omega (arith, claim-at-most-size why (word r 3) (k .customers) (getD tr (m * 8 + 1) 0) (getD tr (m * 8 + 7) 0), pl .fields kind .size, ed)
@@ -236,7 +249,7 @@ module _ (r : Rec) (home exchanges close : ℕ) (tr sn : List ℕ) (trades : ℕ
         record {
           line = pl .room kind;
           trade = trade-low;
-          eighth = eighth-left;
+          line-left = line-left;
           sum-small = omega (arith, fi .small m trade-low, fi .few);
           claim-small = claim-small;
           long = fi .long;
@@ -260,6 +273,8 @@ module _ (r : Rec) (home exchanges close : ℕ) (tr sn : List ℕ) (trades : ℕ
           let low : j < 512 = omega (arith, fi .few) in
           let ne : j ≡ n → ⊥ = λ z. omega arith in
           record {
+            is-order = t .is-order;
+            trade = f .others j 0 low (omega arith) ne ∙ t .trade;
             sender = f .others j 5 low (omega arith) ne ∙ t .sender;
             asked = f .others j 6 low (omega arith) ne ∙ t .asked;
             time = f .others j 7 low (omega arith) ne ∙ t .time;
@@ -270,9 +285,9 @@ module _ (r : Rec) (home exchanges close : ℕ) (tr sn : List ℕ) (trades : ℕ
       filing-after : Filing cl2 (n + 1)
       filing-after =
           record {
-            eight =
-                λ a ha. byTest (eqb a m) (λ q. rw (eqb-true a m q) (omega (arith, f .many-here, eighth-left)))
-                (λ q. omega (arith, f .many-other a (eqb-false a m q), fi .eight a ha));
+            few-lines =
+                λ a ha. byTest (eqb a m) (λ q. rw (eqb-true a m q) (omega (arith, f .many-here, line-left)))
+                (λ q. omega (arith, f .many-other a (eqb-false a m q), fi .few-lines a ha));
             earlier = λ a i ha hi. byTest (eqb a m) (λ q. new a i ha hi (eqb-true a m q)) (λ q. other a i ha hi (eqb-false a m q));
             of-trades =
                 λ i hi. byTest (eqb i n)
@@ -280,6 +295,8 @@ module _ (r : Rec) (home exchanges close : ℕ) (tr sn : List ℕ) (trades : ℕ
                 (λ q. let ne = eqb-false i n q in
                 let old : i < n = omega (arith, ne) in
                 rw (f .others i 0 (omega (arith, fi .few)) (omega arith) ne) (fi .of-trades i old));
+            from-one = of-senders (λ a. 1 ≤ a) (pl .fields kind .sender .from-one) (fi .from-one);
+            to-most = of-senders (λ a. a ≤ mostExchanges) (omega (arith, pl .fields kind .sender .to-n, ok .few)) (fi .to-most);
             small =
                 λ a ha. byTest (eqb a m) (λ q. rw (eqb-true a m q) (omega (arith, f .sum-here, claim-small, fi .small m trade-low)))
                 (λ q. omega (arith, f .sum-other a (eqb-false a m q), fi .small a ha));
@@ -287,10 +304,17 @@ module _ (r : Rec) (home exchanges close : ℕ) (tr sn : List ℕ) (trades : ℕ
             long = f .same-length ∙ fi .long;
           }
         where
+          of-senders : (P : ℕ → Type 0) → P (word r 1) → ((i : ℕ) → i < n → P (getD cl (i * 8 + 5) 0)) → (i : ℕ) → i < n + 1 → P (getD cl2 (i * 8 + 5) 0)
+          of-senders P new old i hi =
+              byTest (eqb i n)
+              (λ q. rw (eqb-true i n q, f .here 5 (omega arith)) new)
+              (λ q. let ne = eqb-false i n q in
+              rw (f .others i 5 (omega (arith, fi .few)) (omega arith) ne) (old i (omega (arith, ne))))
+
           other : (a i : ℕ) → a < 128 → i < manyOf cl2 a → (a ≡ m → ⊥) → numberAt cl2 a i < n + 1
           other a i ha hi ne =
               let lt : i < manyOf cl a = omega (arith, f .many-other a ne) in
-              omega (arith, f .number-other a i ha (omega (arith, fi .eight a ha)) (λ p q. ne p), fi .earlier a i ha lt)
+              omega (arith, f .number-other a i ha (omega (arith, fi .few-lines a ha)) (λ p q. ne p), fi .earlier a i ha lt)
 
           new : (a i : ℕ) → a < 128 → i < manyOf cl2 a → a ≡ m → numberAt cl2 a i < n + 1
           new a i ha hi p =
@@ -299,7 +323,7 @@ module _ (r : Rec) (home exchanges close : ℕ) (tr sn : List ℕ) (trades : ℕ
               (byTest (eqb i (manyOf cl m)) (λ q. rw (eqb-true i (manyOf cl m) q) (omega (arith, f .number-here)))
               (λ q. let ne = eqb-false i (manyOf cl m) q in
               let lt : i < manyOf cl m = omega (arith, ne) in
-              omega (arith, f .number-other m i trade-low (omega (arith, eighth-left)) (λ z1 z2. ne z2), fi .earlier m i trade-low lt)))
+              omega (arith, f .number-other m i trade-low (omega (arith, line-left)) (λ z1 z2. ne z2), fi .earlier m i trade-low lt)))
 
       -- ---- beside the history
 
@@ -328,14 +352,18 @@ module _ (r : Rec) (home exchanges close : ℕ) (tr sn : List ℕ) (trades : ℕ
         stands =
             rw (
               ne-eqb (e .kind) namingKind (λ q. omega (arith, sat)),
-              not-cancelled-in-time h n e past (none-cancelled-ahead arrived n (omega (arith, held .numbered))),
+              not-cancelled-in-time h n e past (not-named n past (none-cancelled-ahead arrived n (omega (arith, held .numbered)))),
             )
+
+        again-told : again ≡ againAt (takenBack m (x - 1 + 1) past)
+        again-told = eg ∙ held .again m (x - 1) trade-low (omega (arith, sends, is .exchanges, ok .few))
 
         why-is : why ≡ reason h (caseOf (e ∷ past) past n e)
         why-is =
             ew ∙ ap reasonOf ek
             ∙ reason-is h (e ∷ past) past n tr sn trades m (x - 1) home tv known sends (is .home) (ok .from-one) home-in e names-trade names-sender stands
-            close (word r 2) (r .time) ec (sym (rd .fields 2)) (rd .time)
+            (taken-back-at-most-once arrived m (x - 1 + 1))
+            close (word r 2) (r .time) again ec (sym (rd .fields 2)) (rd .time) again-told
 
         contracts-are : k .customers ≡ customers (caseOf (e ∷ past) past n e)
         unfolding factsOf
@@ -352,6 +380,8 @@ module _ (r : Rec) (home exchanges close : ℕ) (tr sn : List ℕ) (trades : ℕ
         newest-told : Told cl2 n (record { event = e; before = past })
         newest-told =
             record {
+              is-order = eq-eqb (e .kind) satisfactionKind sat;
+              trade = f .here 0 (omega arith) ∙ rd .fields 0;
               sender = f .here 5 (omega arith) ∙ rd .fields 1;
               asked = f .here 6 (omega arith) ∙ rd .fields 2;
               time = f .here 7 (omega arith) ∙ sym (rd .time);
@@ -380,7 +410,7 @@ module _ (r : Rec) (home exchanges close : ℕ) (tr sn : List ℕ) (trades : ℕ
         old-lines a ha =
             trade-lines-same cl cl2 a (manyOf cl a)
             (λ i hi. let same : numberAt cl2 a i ≡ numberAt cl a i =
-            f .number-other a i ha (omega (arith, fi .eight a ha)) (λ p q. let z : manyOf cl a ≡ manyOf cl m = ap (manyOf cl) p in omega arith) in
+            f .number-other a i ha (omega (arith, fi .few-lines a ha)) (λ p q. let z : manyOf cl a ≡ manyOf cl m = ap (manyOf cl) p in omega arith) in
             ap (lineAt cl2) same ∙ line-kept (numberAt cl a i) (fi .earlier a i ha hi))
             ∙ held .by-trade a ha
 
@@ -413,25 +443,28 @@ module _ (r : Rec) (home exchanges close : ℕ) (tr sn : List ℕ) (trades : ℕ
               by-trade = by-trade-after;
               sums = sums-after;
               told = told-after;
+              again =
+                  λ a y ha hy. f .behind (againWord a y) (omega arith) ∙ held .again a y ha hy
+                  ∙ ap againAt (sym (none-taken-back a (y + 1) e past (ne-eqb (e .kind) cancellationKind (λ q. omega (arith, sat)))));
             }
 
       pub order-taken : ClaimsStep r home exchanges close tr sn trades cl n cl2 (n + 1)
       order-taken = record { filing = filing-after; so = lined-after }
 
 pub no-order : (r : Rec) (home exchanges close : ℕ) (tr sn : List ℕ) (trades : ℕ) (cl : List ℕ) (n : ℕ) → Filing cl n
-    → (r .kind ≡ satisfactionKind → ⊥) → (r .kind ≡ namingKind → ⊥) → ClaimsStep r home exchanges close tr sn trades cl n cl n
-no-order r home exchanges close tr sn trades cl n fi ns nn =
+    → (r .kind ≡ satisfactionKind → ⊥) → (r .kind ≡ namingKind → ⊥) → (r .kind ≡ cancellationKind → ⊥) → ClaimsStep r home exchanges close tr sn trades cl n cl n
+no-order r home exchanges close tr sn trades cl n fi ns nn nc =
     record {
       filing = fi;
-      so = λ h sizes e past arrived is ec rd tv held. lines-alone h past cl n e (λ z. ns (sym (rd .kind) ∙ z)) (λ z. nn (sym (rd .kind) ∙ z)) held;
+      so = λ h sizes e past arrived is ec rd tv held. lines-alone h past cl n e (λ z. ns (sym (rd .kind) ∙ z)) (λ z. nn (sym (rd .kind) ∙ z)) (λ z. nc (sym (rd .kind) ∙ z)) held;
     }
 
 -- a record that the reader has passed, and 7 and 8
 pub record-placed : (exchanges home : ℕ) (r : Rec) (cl : List ℕ) (trades n : ℕ) → RecOk exchanges home r
-    → (r .kind ≡ satisfactionKind → word r 0 < trades) → (r .kind ≡ satisfactionKind → manyOf cl (word r 0) < 8)
+    → (r .kind ≡ satisfactionKind → word r 0 < trades) → (r .kind ≡ satisfactionKind → manyOf cl (word r 0) < mostTradeLines)
     → (r .kind ≡ satisfactionKind → n < 512) → (r .kind ≡ namingKind → word r 0 < n) → (r .kind ≡ namingKind → Cancellable cl (word r 0))
-    → Placed r cl trades exchanges n
-record-placed exchanges home r cl trades n ok known eighth room order cancellable =
+    → (r .kind ≡ cancellationKind → word r 0 < n) → Placed r cl trades exchanges n
+record-placed exchanges home r cl trades n ok known left room order cancellable withdrawn =
     record {
       fields = λ k. let g = ok .satisfaction k in
           record {
@@ -447,10 +480,12 @@ record-placed exchanges home r cl trades n ok known eighth room order cancellabl
             size-from-one = g .size-from-one;
           };
       trade = known;
-      first = eighth;
+      first = left;
       room = room;
       order = order;
       cancellable = cancellable;
+      withdrawn = withdrawn;
+      time = ok .time;
     }
 
-pub ruleset line-laws = (line-filed, trade-known, trade-word-known, sender-from-one, sender-known, order-taken, no-order)
+pub ruleset line-laws = (line-filed, trade-known, trade-word-known, again-word-known, sender-from-one, sender-known, order-taken, no-order)

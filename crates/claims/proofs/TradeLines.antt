@@ -8,26 +8,27 @@ use lib.ListN.{getD, length, set, take, length-set, length-append}
 use lib.Seq.{take-suc-set}
 use borrow.Author.Tests.{eq-eqb}
 use Rattle.rules.specs.Basics.{below}
+use Rattle.rules.specs.Limits.{mostTradeLines}
 use Rattle.rules.specs.Header.{Header}
 use Rattle.rules.specs.Record.{Event, field, isSatisfaction, satisfactionKind}
 use Rattle.rules.specs.Journal.{History, count}
 use Rattle.rules.specs.Due.{Line, lineOf, linesOf, ofTrade, claimsOf, customersOf}
 use Rattle.rules.proofs.Below.{as-many-below}
 use Rattle.rules.proofs.Journals.{Arrived}
-use Rattle.rules.proofs.TradeLines.{trade-has-at-most-a-line-for-each-exchange}
-use Rattle.claims.specs.Lines.{lineAt, numberAt, manyOf, tradeLines, Lined, Filing, Findable, ManyIs, NumberIs, Gathering, Gathered}
+use Rattle.rules.proofs.TradeLines.{trade-has-at-most-two-lines-for-each-other}
+use Rattle.claims.specs.Lines.{partAt, manyAt, lineAt, numberAt, manyOf, tradeLines, Lined, Filing, Findable, ManyIs, NumberIs, Gathering, Gathered}
 use Rattle.claims.proofs.Lines.{lines-new, of-trade-more, in-its-trade, trade-lines-more}
 
 pub trade-findable : (cl : List ℕ) (n m : ℕ) → Filing cl n → m < 128 → Findable cl m
 trade-findable cl n m fi hm =
-    record { trade = hm; eight = fi .eight m hm; numbers = λ i hi. omega (arith, fi .earlier m i hm hi, fi .few) }
+    record { trade = hm; few-lines = fi .few-lines m hm; numbers = λ i hi. omega (arith, fi .earlier m i hm hi, fi .few) }
 
 module _ (cl : List ℕ) (m : ℕ) (f : Findable cl m) where
-  pub many-read : (r : ℕ) → (r ≡ getD cl ((640 + m) * 8) 0) × (r < 4294967296) → ManyIs cl m r
+  pub many-read : (r : ℕ) → (r ≡ getD cl (manyAt m) 0) × (r < 4294967296) → ManyIs cl m r
   unfolding manyOf
-  many-read r e = record { is = e .0; few = omega (arith, e .0, f .eight) }
+  many-read r e = record { is = e .0; few = omega (arith, e .0, f .few-lines) }
 
-  pub number-read : (i r : ℕ) → i < manyOf cl m → (r ≡ getD cl ((512 + m) * 8 + i) 0) × (r < 4294967296) → NumberIs cl m i r
+  pub number-read : (i r : ℕ) → i < manyOf cl m → (r ≡ getD cl (partAt m + i) 0) × (r < 4294967296) → NumberIs cl m i r
   unfolding numberAt
   number-read i r h e = record { is = e .0; low = omega (arith, e .0, f .numbers i h) }
 
@@ -39,7 +40,7 @@ column-more cl m i j v of words ej ev h same =
     rw (trade-lines-more cl m i, add-one i) (take-suc-set words i v h ∙ rw (same, ev, ej) (sym (map-append of (tradeLines cl m i) (lineAt cl (numberAt cl m i) ∷ []))))
 
 module _ (cl : List ℕ) (m k : ℕ) (mk : ManyIs cl m k) (claim customers : List ℕ) where
-  pub none-gathered : length claim ≡ 8 → length customers ≡ 8 → Gathering cl m k 0 claim customers
+  pub none-gathered : length claim ≡ mostTradeLines → length customers ≡ mostTradeLines → Gathering cl m k 0 claim customers
   unfolding tradeLines below
   none-gathered lc lu = record { claims = refl; contracts = refl; low = omega arith; claim-words = lc; customer-words = lu }
 
@@ -90,11 +91,11 @@ gathered-lines h past cl n m claim customers k hm held g =
     }
 
 -- a Satisfaction Order of an accepted journal finds room under its trade
-pub eighth-left : {h : Header} {past : History} {e : Event} (cl : List ℕ) (n m : ℕ) → Lined h past cl n → Arrived h (e ∷ past) → h .exchanges ≤ 8
-    → e .kind ≡ satisfactionKind → field e 0 ≡ m → m < 128 → manyOf cl m < 8
-eighth-left {h} {past} {e} cl n m held v few k names hm =
+pub trade-has-a-line-left : {h : Header} {past : History} {e : Event} (cl : List ℕ) (n m : ℕ) → Lined h past cl n → Arrived h (e ∷ past) → h .exchanges ≤ 8 → 1 ≤ h .home → h .home ≤ h .exchanges
+    → e .kind ≡ satisfactionKind → field e 0 ≡ m → m < 128 → manyOf cl m < mostTradeLines
+trade-has-a-line-left {h} {past} {e} cl n m held v few from to k names hm =
     let l : Line = lineOf h (e ∷ past) past (count isSatisfaction past) e in
-    let all = trade-has-at-most-a-line-for-each-exchange v (e ∷ past) m in
+    let all = trade-has-at-most-two-lines-for-each-other v from to (e ∷ past) m in
     let many : manyOf cl m ≡ length (ofTrade m (linesOf h past past)) = sym (trade-lines-long cl m (manyOf cl m)) ∙ ap length (held .by-trade m hm) in
     let with-it : ofTrade m (linesOf h (e ∷ past) (e ∷ past)) ≡ ofTrade m (linesOf h past past) ++ (l ∷ []) =
     ap (ofTrade m) (lines-new h e past k) ∙ of-trade-more m (linesOf h past past) l

@@ -4,9 +4,10 @@ use Prim.Native.Nat.{ℕ, _+_, _-_, _*_}
 use lib.ListN.{getD}
 use Rattle.reasons.specs.declared.Facts.{Facts}
 
--- what trade m kept, of itself, of exchange y + 1 and of home, with the header's close and the order's own price and time
-unfoldable pub factsOf : List ℕ → List ℕ → ℕ → ℕ → ℕ → ℕ → ℕ → ℕ → Facts
-factsOf tr sn m y home close asked now =
+-- what trade m kept, of itself, of exchange y + 1 and of home, with the header's close, the order's own price and time, and when its sender's
+-- first was cancelled
+unfoldable pub factsOf : List ℕ → List ℕ → ℕ → ℕ → ℕ → ℕ → ℕ → ℕ → ℕ → Facts
+factsOf tr sn m y home close asked now again =
     record {
       side = getD sn ((m * 8 + y) * 8 + 0) 0;
       there = getD sn ((m * 8 + y) * 8 + 1) 0;
@@ -22,4 +23,5 @@ factsOf tr sn m y home close asked now =
       close = close;
       asked = asked;
       time = now;
+      again = again;
     }

@@ -1,12 +1,14 @@
 // What a sheet says, our own or one that was handed in, beside what the journal gives; and where the check refused it.
 ghost use Prim.Native.Nat.{_<_, _≤_};
-ghost use Rattle.rules.specs.Limits.{mostTrades, mostSatisfactionOrders};
+ghost use Rattle.rules.specs.Limits.{mostTrades, mostSatisfactionOrders, mostTradeLines};
 ghost use Rattle.claims.specs.Lines.{Filing};
 use crate::order;
 use crate::order::Order;
+use crate::telling;
 use crate::words;
 use claims::Line;
 use rows::Refusal;
+use rows::TradeLines;
 use said::Said;
 
 // Whose sheet it is; how many of its lines could be read, and the place where that ended; the check's refusal, 0 where it was accepted, and its place.
@@ -52,7 +54,7 @@ fn say_three(own: bool, reason: u32, filled: u32, cancelled: u32) {
     words::told(b", cancelled ", cancelled);
 }
 
-// Where less is due to the trade than is claimed (shared) another sheet may be as good as our own.
+// Where less is due to the trade than is claimed, and the order has a part in it (shared), another sheet may be as good as our own.
 fn say_line(said: &[u32; 1536], sheet: Sheet, i: usize, shared: bool) -> bool
     requires { ⌜ i < mostSatisfactionOrders ⌝ }
 {
@@ -151,10 +153,10 @@ pub fn tell_extra(sheet: Sheet, n: usize) {
 }
 
 // The sum of trade m's claims.
-pub fn claimed(lines: &[u32; 6144], m: usize) -> u32
+pub fn claimed(lines: &[u32; Line::WORDS], m: usize) -> u32
     requires { ⌜ m < mostTrades ⌝ }
 {
-    lines[(Line::SUMS + m) * 8 + 1]
+    lines[Line::TRADES + m * Line::PART + Line::SUM]
 }
 
 // "the lesser of trade size and the sum of claims; else the sum of claims"
@@ -170,8 +172,14 @@ fn say_due(claims: u32, due: u32) {
 }
 
 // The first line that line i is too far behind, or k.
-fn ahead_of(claim: &[u32; 8], customers: &[u32; 8], fill: &[u32; 8], k: usize, i: usize) -> usize
-    requires { ⌜ (k ≤ 8) × (i < 8) ⌝ }
+fn ahead_of(
+    claim: &[u32; TradeLines::MOST],
+    customers: &[u32; TradeLines::MOST],
+    fill: &[u32; TradeLines::MOST],
+    k: usize,
+    i: usize,
+) -> usize
+    requires { ⌜ (k ≤ mostTradeLines) × (i < mostTradeLines) ⌝ }
     ensures { λ r. ⌜ r ≤ k ⌝ }
 {
     let mut j: usize = 0;
@@ -198,23 +206,24 @@ fn say_below(claim: u32) {
 
 // 26: the first line that is too far behind another, and that other.
 fn say_behind(
-    lines: &[u32; 6144],
+    lines: &[u32; Line::WORDS],
     m: usize,
-    claim: &[u32; 8],
-    customers: &[u32; 8],
-    fill: &[u32; 8],
+    claim: &[u32; TradeLines::MOST],
+    customers: &[u32; TradeLines::MOST],
+    fill: &[u32; TradeLines::MOST],
     k: usize,
 )
     requires { ⌜ m < mostTrades ⌝ }
-    requires { ⌜ k ≤ 8 ⌝ }
+    requires { ⌜ k ≤ mostTradeLines ⌝ }
 {
+    let part = Line::TRADES + m * Line::PART;
     let mut i: usize = 0;
     while i < k {
         let j = ahead_of(claim, customers, fill, k, i);
         if j < k {
-            say_filled(lines[(Line::NUMBERS + m) * 8 + i], fill[i], customers[i]);
+            say_filled(lines[part + i], fill[i], customers[i]);
             say_below(claim[i]);
-            say_filled(lines[(Line::NUMBERS + m) * 8 + j], fill[j], customers[j]);
+            say_filled(lines[part + j], fill[j], customers[j]);
             return;
         }
         i += 1;
@@ -230,17 +239,17 @@ fn is_trade_fault(no: u32) -> bool {
 
 // 25 and 26, where the check stopped at trade m with so many orders.
 fn say_trade_fault(
-    lines: &[u32; 6144],
+    lines: &[u32; Line::WORDS],
     m: usize,
-    claim: &[u32; 8],
-    customers: &[u32; 8],
-    fill: &[u32; 8],
+    claim: &[u32; TradeLines::MOST],
+    customers: &[u32; TradeLines::MOST],
+    fill: &[u32; TradeLines::MOST],
     k: usize,
     due: u32,
     no: u32,
 ) -> bool
     requires { ⌜ m < mostTrades ⌝ }
-    requires { ⌜ k ≤ 8 ⌝ }
+    requires { ⌜ k ≤ mostTradeLines ⌝ }
 {
     say_here(no);
     if no == Refusal::SHARE_RULE_BROKEN {
@@ -255,7 +264,7 @@ fn say_trade_fault(
 
 // What the sheet fills of trade m, and what is wrong with it. Says whether it could be written.
 fn tell_fills(
-    lines: &[u32; 6144],
+    lines: &[u32; Line::WORDS],
     said: &[u32; 1536],
     n: usize,
     m: usize,
@@ -265,9 +274,9 @@ fn tell_fills(
     requires { ⌜ m < mostTrades ⌝ }
     requires { ⌜ Filing (now lines) n ⌝ }
 {
-    let mut claim = [0u32; 8];
-    let mut customers = [0u32; 8];
-    let mut fill = [0u32; 8];
+    let mut claim = [0u32; TradeLines::MOST];
+    let mut customers = [0u32; TradeLines::MOST];
+    let mut fill = [0u32; TradeLines::MOST];
     let k = claims::gather(lines, m, &mut claim, &mut customers);
     checker::gather_fills(lines, n, said, m, &mut fill);
     words::say(b"filled ");
@@ -283,7 +292,7 @@ fn tell_fills(
 
 // Trade m of a journal with n orders: its claims and what is due, and what the sheet fills of it. Says whether it could be written.
 pub fn tell_trade(
-    lines: &[u32; 6144],
+    lines: &[u32; Line::WORDS],
     kept: &[u32; 1024],
     snaps: &[u32; 8192],
     said: &[u32; 1536],
@@ -296,7 +305,7 @@ pub fn tell_trade(
 {
     let k = claims::lines_of(lines, m);
     words::counted(b"Trade ", m);
-    order::say_contracts(order::trade_at(kept, snaps, m));
+    telling::say_contracts(order::trade_at(kept, snaps, m));
     words::counted(b"; Satisfaction Orders: ", k);
     let written = words::say(b"\n");
     if k == 0 {

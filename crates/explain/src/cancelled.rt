@@ -7,7 +7,7 @@ use rows::Rec;
 pub struct Cancelled;
 
 impl Cancelled {
-    // No time of a day: what stands for an order that nothing cancels.
+    // No time of a day: what stands for an order that no such record cancels.
     pub const NEVER: u32 = 4294967295;
 }
 

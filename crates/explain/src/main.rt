@@ -6,6 +6,7 @@ ghost use Rattle.rules.specs.Limits.{mostTrades, mostSatisfactionOrders};
 ghost use Rattle.claims.specs.Lines.{Filing};
 use beside::Sheet;
 use cancelled::Cancelled;
+use claims::Line;
 use feed::Input;
 use feed::Room;
 use journal::Rewritten;
@@ -18,37 +19,40 @@ use survey::Surveyed;
 mod beside;
 mod cancelled;
 mod order;
+mod telling;
 mod words;
 
-// One order, and its line in the sheet. Says whether it could be written.
+// One order of n, and its line in the sheet. Says whether it could be written.
 fn told_order(
-    lines: &[u32; 6144],
+    lines: &[u32; Line::WORDS],
     kept: &[u32; 1024],
     snaps: &[u32; 8192],
     said: &[u32; 1536],
     cancelled: &[u32; 512],
+    n: usize,
     i: usize,
     close: u32,
     sheet: Sheet,
 ) -> bool
-    requires { ⌜ i < mostSatisfactionOrders ⌝ }
+    requires { ⌜ (i < mostSatisfactionOrders) × Filing (now lines) n ⌝ }
 {
     let order = order::order_at(lines, cancelled, i);
     let m = rows::index(order.trade);
     if Trade::MOST <= m {
         return false;
     }
-    order::tell(order, kept, snaps, m, close);
+    let turn = order::turn_at(lines, m, order.sender, i);
+    telling::tell(order, turn, kept, snaps, m, close);
     let due = claims::due_total(lines, kept, m);
     words::told(b"  due to all orders for the trade: ", due);
     words::say(b"\n");
-    let shared = due < beside::claimed(lines, m);
+    let shared = order.reason == 0 && due < beside::claimed(lines, m);
     beside::tell_line(said, order, i, sheet, shared)
 }
 
 // Says whether they could be written.
 fn tell_orders(
-    lines: &[u32; 6144],
+    lines: &[u32; Line::WORDS],
     kept: &[u32; 1024],
     snaps: &[u32; 8192],
     said: &[u32; 1536],
@@ -57,11 +61,11 @@ fn tell_orders(
     close: u32,
     sheet: Sheet,
 ) -> bool
-    requires { ⌜ n ≤ mostSatisfactionOrders ⌝ }
+    requires { ⌜ (n ≤ mostSatisfactionOrders) × Filing (now lines) n ⌝ }
 {
     let mut i: usize = 0;
     while i < n {
-        if !told_order(lines, kept, snaps, said, cancelled, i, close, sheet) {
+        if !told_order(lines, kept, snaps, said, cancelled, n, i, close, sheet) {
             return false;
         }
         i += 1;
@@ -70,7 +74,7 @@ fn tell_orders(
 }
 
 fn tell_trades(
-    lines: &[u32; 6144],
+    lines: &[u32; Line::WORDS],
     kept: &[u32; 1024],
     snaps: &[u32; 8192],
     said: &[u32; 1536],
@@ -92,7 +96,7 @@ fn tell_trades(
 
 // Every order, then every trade, each with what the sheet says beside it.
 fn tell(
-    lines: &[u32; 6144],
+    lines: &[u32; Line::WORDS],
     kept: &[u32; 1024],
     snaps: &[u32; 8192],
     said: &[u32; 1536],
@@ -119,7 +123,7 @@ fn tell(
 fn explain(journal: &[u8], sheet: &[u8], own: bool, no: u32, at: usize) {
     let mut kept = [0u32; 1024];
     let mut snaps = [0u32; 8192];
-    let mut lines = [0u32; 6144];
+    let mut lines = [0u32; Line::WORDS];
     let mut rows = [0u32; 1];
     let Surveyed::Whole {
         trades,

@@ -102,6 +102,7 @@ pub fn reason(why: u32, excuser: u32, initiator: u32) {
         10 => say(b"the sender was not traded through, and so is no aggrieved party, 6.92(a)(1)"),
         11..=13 => say_price_reason(why),
         Naming::REASON => say_named(initiator),
+        15 => say(b"it was sent again too late, 6.94(a)(2)(i)"),
         _ => say_exception(why, excuser),
     }
     ;

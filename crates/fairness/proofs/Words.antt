@@ -8,6 +8,7 @@ use lib.ListN.{getD, take}
 use mir.Val.{Fits}
 use mir.Syntax.{w64}
 use Rattle.rules.specs.Basics.{sum}
+use Rattle.rules.specs.Limits.{mostTradeLines}
 use Rattle.fairness.specs.Pairs.{Summing}
 
 sum-grows-by-word : (l : List ℕ) (i : ℕ) → sum (take (suc i) l) ≡ sum (take i l) + getD l i 0
@@ -34,7 +35,7 @@ module _ (l : List ℕ) (k : ℕ) where
     pub summing-all : k ≤ i → s ≡ sum (take k l)
     summing-all ge = let e : i ≡ k = omega (arith, h .low) in rw (← e) (h .is)
 
-    pub summing-fits : (v : ℕ) → k ≤ 8 → i < k → v < 4294967296 → Fits w64 (s + v)
+    pub summing-fits : (v : ℕ) → k ≤ mostTradeLines → i < k → v < 4294967296 → Fits w64 (s + v)
     summing-fits v few lt b = record { fits = omega (arith, h .small) }
 
 pub ruleset sum-laws = (summing-none, summing-more, summing-all, summing-fits)

@@ -5,6 +5,7 @@ use mathlib.Core.List.{List, List·Memᴰ}
 use Prim.Native.Nat.{ℕ, _<_, _≤_}
 use lib.ListN.{getD, length, take}
 use Rattle.rules.specs.Basics.{_==_}
+use Rattle.rules.specs.Limits.{mostTradeLines}
 use Rattle.rules.specs.Due.{Line, claimsOf, customersOf, Share, shareRule}
 use Rattle.rules.specs.SheetCheck.{fillsOf}
 use Rattle.rules.specs.GoodSheet.{noLine}
@@ -21,12 +22,12 @@ pub record Sound (l : Line) : Type 0 where
 -- all lines of a trade in their order, whatever their reasons
 pub record Lined (ls : List Line) (claim customers : List ℕ) (k : ℕ) : Type 0 where
   pub many : k ≡ length ls
-  pub few : k ≤ 8
+  pub few : k ≤ mostTradeLines
   pub claims : take k claim ≡ claimsOf ls
   pub customer-contracts : take k customers ≡ customersOf ls
   pub sound : (l : Line) → List·Memᴰ l ls → Sound l
-  pub claim-words : length claim ≡ 8
-  pub customer-words : length customers ≡ 8
+  pub claim-words : length claim ≡ mostTradeLines
+  pub customer-words : length customers ≡ mostTradeLines
 
 -- these lines, filled somehow
 pub record Gathered (ss : List Share) (claim customers fill : List ℕ) (k : ℕ) : Type 0 where

@@ -1,15 +1,17 @@
 // One trade's lines, and whether a sheet's fills keep the share rule among them.
-// A trade has at most one line for each other exchange, so its claims, customer contracts and fills are the first k words of eight.
+// A trade's claims, customer contracts and fills are the first k words of arrays that have one for each line that a trade can have.
 ghost use mathlib.Core.Path.{_≡_};
 ghost use Prim.Native.Nat.{_≤_};
 ghost use lib.ListN.{take};
 ghost use Rattle.rules.specs.Basics.{sum};
+ghost use Rattle.rules.specs.Limits.{mostTradeLines};
 ghost use Rattle.fairness.specs.Lines.{RuleAnswered};
 ghost use Rattle.fairness.specs.Pairs.{Breaks};
+use rows::TradeLines;
 
 // The sum of the first k words.
-pub fn total(words: &[u32; 8], k: usize) -> u64
-    requires { ⌜ k ≤ 8 ⌝ }
+pub fn total(words: &[u32; TradeLines::MOST], k: usize) -> u64
+    requires { ⌜ k ≤ mostTradeLines ⌝ }
     ensures { λ r. ⌜ r ≡ sum (take k (now (words .entry))) ⌝ }
 {
     let mut sum: u64 = 0;
@@ -32,8 +34,13 @@ pub fn breaks(fill: u32, claim: u32, customers: u32, fill2: u32, customers2: u32
 }
 
 // The share rule, "for any two lines of a trade": the checker "stops at the first pair of lines that breaks" it.
-pub fn keeps_rule(claim: &[u32; 8], customers: &[u32; 8], fill: &[u32; 8], k: usize) -> bool
-    requires { ⌜ k ≤ 8 ⌝ }
+pub fn keeps_rule(
+    claim: &[u32; TradeLines::MOST],
+    customers: &[u32; TradeLines::MOST],
+    fill: &[u32; TradeLines::MOST],
+    k: usize,
+) -> bool
+    requires { ⌜ k ≤ mostTradeLines ⌝ }
     ensures { λ r. ⌜ RuleAnswered (now (claim .entry)) (now (customers .entry)) (now (fill .entry)) k r ⌝ }
 {
     let mut kept = true;

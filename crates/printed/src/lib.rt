@@ -31,7 +31,13 @@ fn left(size: u32, filled: u32) -> u32
 }
 
 // What our own sheet says on this line.
-fn order_shown(event: u32, line: usize, cl: &[u32; 6144], fills: &[u32; 512], lines: usize) -> Shown
+fn order_shown(
+    event: u32,
+    line: usize,
+    cl: &[u32; Line::WORDS],
+    fills: &[u32; 512],
+    lines: usize,
+) -> Shown
     requires { ⌜ lines ≤ mostSatisfactionOrders ⌝ }
     ensures { λ r. ⌜ OrderShown (sheetFrom (now (cl .entry)) (now (fills .entry)) lines) event line r ⌝ }
 {
@@ -55,7 +61,13 @@ fn order_shown(event: u32, line: usize, cl: &[u32; 6144], fills: &[u32; 512], li
     }
 }
 
-fn row_shown(list: &[u32], i: usize, cl: &[u32; 6144], fills: &[u32; 512], lines: usize) -> Shown
+fn row_shown(
+    list: &[u32],
+    i: usize,
+    cl: &[u32; Line::WORDS],
+    fills: &[u32; 512],
+    lines: usize,
+) -> Shown
     requires { ⌜ (i * 5 + 5 ≤ length (now list)) × (lines ≤ mostSatisfactionOrders) ⌝ }
     ensures { λ r. ⌜ RowShown (sheetFrom (now (cl .entry)) (now (fills .entry)) lines) (now (list .entry)) i r ⌝ }
 {
@@ -75,7 +87,13 @@ fn row_shown(list: &[u32], i: usize, cl: &[u32; 6144], fills: &[u32; 512], lines
     }
 }
 
-fn rows_width(list: &[u32], n: usize, cl: &[u32; 6144], fills: &[u32; 512], lines: usize) -> usize
+fn rows_width(
+    list: &[u32],
+    n: usize,
+    cl: &[u32; Line::WORDS],
+    fills: &[u32; 512],
+    lines: usize,
+) -> usize
     requires { ⌜ (n ≤ mostRows) × (length (now list) ≡ listWords) × (lines ≤ mostSatisfactionOrders) ⌝ }
     ensures { λ r. ⌜ Takes (textFrom (sheetFrom (now (cl .entry)) (now (fills .entry)) lines) (now (list .entry)) n) mostText r ⌝ }
 {
@@ -92,7 +110,7 @@ fn rows_width(list: &[u32], n: usize, cl: &[u32; 6144], fills: &[u32; 512], line
 fn put_rows(
     list: &[u32],
     n: usize,
-    cl: &[u32; 6144],
+    cl: &[u32; Line::WORDS],
     fills: &[u32; 512],
     lines: usize,
     out: &mut [u8],
@@ -116,7 +134,7 @@ fn put_rows(
 pub fn print(
     list: &[u32],
     n: usize,
-    cl: &[u32; 6144],
+    cl: &[u32; Line::WORDS],
     fills: &[u32; 512],
     lines: usize,
     out: &mut [u8],

@@ -1,6 +1,6 @@
 -- The table of reasons, one law for each way out of the code: the tests above it failed, its own holds.
 use mathlib.Core.Path.{_≡_, refl, sym, ap, _∙_}
-use mathlib.Core.Bool.{Bool, true, false, not, _&&_, or-true}
+use mathlib.Core.Bool.{Bool, true, false, not, _&&_, or-true, and-false}
 use mathlib.Core.List.{List, [], _∷_, _++_}
 use Prim.Native.Nat.{ℕ, _+_, _-_, _≤_, _<_, min}
 use native.Mathlib.Omega.{arith}
@@ -15,7 +15,7 @@ use Rattle.rules.specs.Due.{mostAtTheClose, limited, leastOf}
 use Rattle.rules.proofs.Tests.{byTest, and-left, and-right}
 use Rattle.rules.proofs.Naming.{named}
 use Rattle.reasons.specs.declared.Facts.{Facts}
-use Rattle.reasons.specs.Reasons.{laterThan, minutesAt, allowedAt, inTime, requiredOf, byTrade, byTime, byPrice, tradeReason, lateReason, priceReason, reasonOf, claimOf}
+use Rattle.reasons.specs.Reasons.{laterThan, minutesAt, allowedAt, inTime, requiredOf, byTrade, byTime, byPrice, tradeReason, lateReason, againReason, timeReason, priceReason, reasonOf, claimOf}
 
 pub later-by-words : (report allowed now a b : ℕ) → (a ≡ report) × (a < 4294967296) → (b ≡ now) × (b < 4294967296) → ltb (a + allowed) b ≡ laterThan report allowed now
 unfolding laterThan
@@ -70,11 +70,14 @@ module _ (why : ℕ) where
   pub named-for-none : why ≡ 0 → 14 ≡ named why
   named-for-none p = rw (eq-eqb why 0 p)
 
-  pub named-for-a-later : 11 ≤ why → 14 ≡ named why
-  named-for-a-later p = rw (le-leb 11 why p, or-true (eqb why 0))
+  pub named-for-a-later : 11 ≤ why → why ≤ 13 → 14 ≡ named why
+  named-for-a-later p q = rw (le-leb 11 why p, le-leb why 13 q, or-true (eqb why 0))
 
   pub not-named-for-an-earlier : (why ≡ 0 → ⊥) → why < 11 → why ≡ named why
   not-named-for-an-earlier p q = rw (ne-eqb why 0 p, lt-leb 11 why q)
+
+  pub not-named-beyond : (why ≡ 0 → ⊥) → 13 < why → why ≡ named why
+  not-named-beyond p q = rw (ne-eqb why 0 p, lt-leb why 13 q, and-false (leb 11 why))
 
 module _ (block price there : ℕ) where
   pub required-of-block : block ≡ 1 → price ≡ requiredOf block price there
@@ -106,7 +109,7 @@ module _ (why size customers traded closing : ℕ) where
   unfolding claimOf
   no-claim p = rw (ne-eqb why 0 p)
 
-pub ruleset word-laws = (later-by-words, one-minute-from, three-minutes-from, minutes-few, minutes-allowed, not-later, three-minutes-allowed, named-for-none, named-for-a-later, not-named-for-an-earlier, required-of-block, required-otherwise, least-in-turn, limited-in-window, not-limited, claim-is-least, no-claim)
+pub ruleset word-laws = (later-by-words, one-minute-from, three-minutes-from, minutes-few, minutes-allowed, not-later, three-minutes-allowed, named-for-none, named-for-a-later, not-named-for-an-earlier, not-named-beyond, required-of-block, required-otherwise, least-in-turn, limited-in-window, not-limited, claim-is-least, no-claim)
 
 module _ (side excuser status home initiator complex : ℕ) where
   pub reason-10 : side ≡ neither → 10 ≡ tradeReason side excuser status home initiator complex
@@ -167,6 +170,26 @@ module _ (initiator report close now allowed : ℕ) (ea : allowed ≡ allowedAt 
       unfolding lateReason firstOf
       no-late-reason q = rw (is-late, sym e8 ∙ p8, sym e9 ∙ q)
 
+-- "reason 15: later than 180,000 ms after the cancellation"
+module _ (cancelled now : ℕ) (late : Bool) (el : late ≡ laterThan cancelled threeMinutes now) where
+  pub reason-15 : late ≡ true → 15 ≡ againReason cancelled now
+  unfolding againReason firstOf
+  reason-15 q = rw (← el, q)
+
+  pub again-in-time : late ≡ false → 0 ≡ againReason cancelled now
+  unfolding againReason firstOf
+  again-in-time q = rw (← el, q)
+
+-- "The second is not judged by 8 or 9 but by reason 15"
+module _ (again initiator report close now why : ℕ) where
+  pub judged-again : (again ≡ 0 → ⊥) → why ≡ againReason (again - 1) now → why ≡ timeReason again initiator report close now
+  unfolding againReason timeReason
+  judged-again p e = e ∙ rw (ne-eqb again 0 p)
+
+  pub judged-first : again ≡ 0 → why ≡ lateReason initiator report close now → why ≡ timeReason again initiator report close now
+  unfolding lateReason timeReason
+  judged-first p e = e ∙ rw (eq-eqb again 0 p)
+
 module _ (asked price block there contracts : ℕ) where
   module _ (b11 : Bool) (e11 : b11 ≡ (eqb asked price && not (eqb block 1))) where
     pub reason-11 : b11 ≡ true → 11 ≡ priceReason asked price block there contracts
@@ -189,9 +212,9 @@ module _ (asked price block there contracts : ℕ) where
             unfolding priceReason firstOf
             no-price-reason = rw (sym e11 ∙ p11, eq-eqb asked (requiredOf block price there) (p12 ∙ e12), ne-eqb contracts 0 p13)
 
-pub ruleset reason-laws = (reason-10, reason-2, reason-3, reason-4, reason-5, reason-6, reason-7, no-trade-reason, allowed-at-most, reason-8, reason-9, no-late-reason, reason-11, reason-12, reason-13, no-price-reason)
+pub ruleset reason-laws = (reason-10, reason-2, reason-3, reason-4, reason-5, reason-6, reason-7, no-trade-reason, allowed-at-most, reason-8, reason-9, no-late-reason, reason-15, again-in-time, judged-again, judged-first, reason-11, reason-12, reason-13, no-price-reason)
 
--- ---- the three parts in their order are the whole table
+-- ---- the parts in their order are the whole table
 
 first-append : (a b : List Row) → all (λ (r : Row). not (r .number == 0)) a ≡ true → firstOf (a ++ b) ≡ (if firstOf a == 0 then firstOf b else firstOf a)
 unfolding firstOf all
@@ -201,32 +224,36 @@ first-append (r ∷ a) b h =
     (λ z. rw (z, not-true (eqb (r .number) 0) (and-left (not (eqb (r .number) 0)) _ h)))
     (λ z. rw z (first-append a b (and-right (not (eqb (r .number) 0)) _ h)))
 
+timed : (again initiator report close now : ℕ) → all (λ (r : Row). not (r .number == 0)) (byTime again initiator report close now) ≡ true
+unfolding all
+timed again initiator report close now = byTest (eqb again 0) (λ p. rw p) (λ p. rw p)
+
 module _ (k : Facts) where
   parts : reasonOf k
       ≡ (if tradeReason (k .side) (k .excuser) (k .status) (k .home) (k .initiator) (k .complex) == 0
       then
-      (if lateReason (k .initiator) (k .report) (k .close) (k .time) == 0
+      (if timeReason (k .again) (k .initiator) (k .report) (k .close) (k .time) == 0
       then priceReason (k .asked) (k .price) (k .block) (k .there) (k .customers)
-      else lateReason (k .initiator) (k .report) (k .close) (k .time))
+      else timeReason (k .again) (k .initiator) (k .report) (k .close) (k .time))
       else tradeReason (k .side) (k .excuser) (k .status) (k .home) (k .initiator) (k .complex))
-  unfolding reasonOf tradeReason lateReason priceReason all
+  unfolding reasonOf tradeReason timeReason priceReason all
   parts =
       first-append
       (byTrade (k .side) (k .excuser) (k .status) (k .home) (k .initiator) (k .complex))
-      (byTime (k .initiator) (k .report) (k .close) (k .time) ++ byPrice (k .asked) (k .price) (k .block) (k .there) (k .customers))
+      (byTime (k .again) (k .initiator) (k .report) (k .close) (k .time) ++ byPrice (k .asked) (k .price) (k .block) (k .there) (k .customers))
       refl
       ∙ ap (λ (later : ℕ). if tradeReason (k .side) (k .excuser) (k .status) (k .home) (k .initiator) (k .complex) == 0
       then later else tradeReason (k .side) (k .excuser) (k .status) (k .home) (k .initiator) (k .complex))
       (first-append
-      (byTime (k .initiator) (k .report) (k .close) (k .time))
+      (byTime (k .again) (k .initiator) (k .report) (k .close) (k .time))
       (byPrice (k .asked) (k .price) (k .block) (k .there) (k .customers))
-      refl)
+      (timed (k .again) (k .initiator) (k .report) (k .close) (k .time)))
 
   module _ (t : ℕ) (et : t ≡ tradeReason (k .side) (k .excuser) (k .status) (k .home) (k .initiator) (k .complex)) where
     pub reason-by-trade : (t ≡ 0 → ⊥) → t ≡ reasonOf k
     reason-by-trade p = rw (parts, ← et, ne-eqb t 0 p)
 
-    module _ (z : t ≡ 0) (l : ℕ) (el : l ≡ lateReason (k .initiator) (k .report) (k .close) (k .time)) where
+    module _ (z : t ≡ 0) (l : ℕ) (el : l ≡ timeReason (k .again) (k .initiator) (k .report) (k .close) (k .time)) where
       pub reason-by-time : (l ≡ 0 → ⊥) → l ≡ reasonOf k
       reason-by-time p = rw (parts, ← et, ← el, eq-eqb t 0 z, ne-eqb l 0 p)
 

@@ -6,18 +6,20 @@ ghost use Rattle.rules.specs.Basics.{_==_};
 ghost use Rattle.rules.specs.Reasons.{threeMinutes};
 ghost use Rattle.rules.specs.Due.{leastOf, limited};
 ghost use Rattle.rules.proofs.Naming.{named};
-ghost use Rattle.reasons.specs.Reasons.{minutesAt, laterThan, allowedAt, inTime, requiredOf, tradeReason, lateReason, priceReason, reasonOf, claimOf};
+ghost use Rattle.reasons.specs.Reasons.{minutesAt, laterThan, allowedAt, inTime, requiredOf, tradeReason, lateReason, againReason, timeReason, priceReason, reasonOf, claimOf};
 use prices::Side;
 use rows::Closing;
 use rows::Complex;
+use rows::Minutes;
 use rows::Status;
 
-// How long after the report a Satisfaction Order may come, and how long after that it may be cancelled.
+// How long after the report a Satisfaction Order may come, how long after that it may be cancelled, and how long after that it may be
+// sent again.
 pub struct Receipt;
 
 impl Receipt {
     // "received later than the report plus 180,000 ms"
-    pub const THREE_MINUTES: u64 = 180000;
+    pub const THREE_MINUTES: u64 = Minutes::THREE as u64;
 
     // "or plus 60,000 if the report is at or after close less 300,000"
     pub const ONE_MINUTE: u64 = 60000;
@@ -26,7 +28,8 @@ impl Receipt {
 }
 
 // What a Satisfaction Order is judged by: of its sender at the trade the side traded through, the price and the customer
-// contracts there, the status and what excused home (0 nothing); home's status; of the trade; of the order.
+// contracts there, the status and what excused home (0 nothing); home's status; of the trade; of the order, and when its sender's first
+// was cancelled so that it could be sent again (one above the time, 0 for a first one).
 pub struct Facts {
     pub side: u32,
     pub there: u32,
@@ -42,6 +45,7 @@ pub struct Facts {
     pub close: u32,
     pub asked: u32,
     pub time: u32,
+    pub again: u32,
 }
 
 fn both(a: bool, b: bool) -> bool
@@ -143,6 +147,26 @@ fn late_reason(initiator: u32, report: u32, close: u32, time: u32) -> u32
     0
 }
 
+// "reason 15: later than 180,000 ms after the cancellation"
+fn again_reason(cancelled: u32, time: u32) -> u32
+    ensures { λ r. ⌜ r ≡ againReason cancelled time ⌝ }
+{
+    if later_than(cancelled, Receipt::THREE_MINUTES, time) {
+        return 15;
+    }
+    0
+}
+
+// "The second is not judged by 8 or 9 but by reason 15".
+fn time_reason(again: u32, initiator: u32, report: u32, close: u32, time: u32) -> u32
+    ensures { λ r. ⌜ r ≡ timeReason again initiator report close time ⌝ }
+{
+    if again != 0 {
+        return again_reason(again - 1, time);
+    }
+    late_reason(initiator, report, close, time)
+}
+
 // "11 price is the trade's and the trade is no block. 12 price is not the one required. 13 no customer contracts."
 fn price_reason(asked: u32, price: u32, block: u32, there: u32, customers: u32) -> u32
     ensures { λ r. ⌜ r ≡ priceReason asked price block there customers ⌝ }
@@ -167,7 +191,7 @@ pub fn reason_of(k: Facts) -> u32
     if by_trade != 0 {
         return by_trade;
     }
-    let by_time = late_reason(k.initiator, k.report, k.close, k.time);
+    let by_time = time_reason(k.again, k.initiator, k.report, k.close, k.time);
     if by_time != 0 {
         return by_time;
     }
@@ -181,8 +205,10 @@ impl Naming {
     // "A cancellation in time makes reason 14"
     pub const REASON: u32 = 14;
 
-    // "judged after 9 and before 11": the first of those that give way to it.
+    // "judged after 9 and before 11": the first and the last of those that give way to it. 15 stands "in 8's place".
     pub const BEFORE: u32 = 11;
+
+    pub const LAST: u32 = 13;
 }
 
 // The reason on an order that was cancelled in time, by the one that it would have.
@@ -192,10 +218,13 @@ pub fn named(why: u32) -> u32
     if why == 0 {
         return Naming::REASON;
     }
-    if Naming::BEFORE <= why {
-        return Naming::REASON;
+    if why < Naming::BEFORE {
+        return why;
     }
-    why
+    if Naming::LAST < why {
+        return why;
+    }
+    Naming::REASON
 }
 
 // "the least of order size, customer contracts and trade size"

@@ -76,7 +76,7 @@ lines-limited none day l m = absurd (List·Memᴰ·not-nil m)
 lines-limited {h} (more {past} {e} v i b r) day l m =
     at-end (LineLimited (e ∷ past)) (linesOf h day past) (isSatisfaction e) (lineOf h day past (count isSatisfaction past) e)
     (λ x k. limited-later e past x (lines-known v day x k .of-a-trade) (lines-limited v day x k))
-    (λ s. limited-later e past _ (unfold lineOf in satisfaction-known past e b s) (line-limited h day past (count isSatisfaction past) e))
+    (λ s. limited-later e past _ (unfold lineOf in satisfaction-known h past e b s) (line-limited h day past (count isSatisfaction past) e))
     l m
 
 -- no good sheet fills more than ten on a line whose trade came after the record

@@ -10,6 +10,8 @@ pub mod Otherwise
 pub mod Lines
 pub mod Closing
 pub mod Naming
+pub mod Claims
+pub mod Again
 pub mod TradeLines
 pub mod Giving
 pub mod OwnSheet

@@ -30,15 +30,15 @@ firstOf-among good z (r ∷ rows) e =
     (λ t. rw t (firstOf-among good z rows (and-right (good (r .number)) (all (λ s. good (s .number)) rows) e)))
 
 abbrev pub isReason : ℕ → Bool
-isReason n = n == 0 || within 2 14 n
+isReason n = n == 0 || within 2 15 n
 
 pub reason-among : (h : Header) (k : Case) → isReason (reason h k) ≡ true
 unfolding reason all
 reason-among h k = firstOf-among isReason refl _ refl
 
-pub reason-at-most-14 : (h : Header) (k : Case) → reason h k ≤ 14
+pub reason-at-most-15 : (h : Header) (k : Case) → reason h k ≤ 15
 unfolding reason all
-reason-at-most-14 h k = leb-true _ _ (firstOf-among (λ n. n atMost 14) refl _ refl)
+reason-at-most-15 h k = leb-true _ _ (firstOf-among (λ n. n atMost 15) refl _ refl)
 
 -- ---- claims: "the least of order size, customer contracts and trade size"
 
@@ -80,9 +80,9 @@ satisfaction-fits h e i s =
     let t = fits-at h (fieldsOf h satisfactionKind) (e .fields) (subst (λ (n : ℕ). fitAll h (fieldsOf h n) (e .fields) ≡ true) k (i .fields-fit)) 3 (omega arith) in
     leb-true _ _ (and-right (1 atMost field e 3) _ (and-left (within 1 mostContracts (field e 3)) _ t))
 
-pub satisfaction-known : (past : History) (e : Event) → belongs past e ≡ true → isSatisfaction e ≡ true → (satisfaction e) .trade < count isTrade past
+pub satisfaction-known : (h : Header) (past : History) (e : Event) → belongs h past e ≡ true → isSatisfaction e ≡ true → (satisfaction e) .trade < count isTrade past
 unfolding belongs satisfactionBelongs
-satisfaction-known past e b s =
+satisfaction-known h past e b s =
     let k = eqb-true (e .kind) satisfactionKind s in
     let n : isResponse e ≡ false = ne-eqb (e .kind) 5 (λ q. let r : _≡_ {A = ℕ} 7 5 = sym k ∙ q in omega arith) in
     let t = simp (n, s, facts) at b in
@@ -94,7 +94,7 @@ pub record LineKnown (h : Header) (past : History) (l : Line) : Type 0 where
   pub numbered : l .number < count isSatisfaction past
   pub of-a-trade : l .trade < count isTrade past
   pub size-fits : l .size ≤ mostContracts
-  pub reason-fits : l .reason ≤ 14
+  pub reason-fits : l .reason ≤ 15
   pub claim-in-order : l .claim ≤ l .size
   pub claim-in-customers : l .claim ≤ l .customers
   pub unclaimed : (l .reason == 0) ≡ false → l .claim ≡ 0
@@ -119,9 +119,9 @@ lines-known {h} (more {past} {e} v i b r) day l m =
     (λ s. let c = claim-at-most h (caseOf day past (count isSatisfaction past) e) in
     record {
       numbered = omega (arith, count-cons isSatisfaction e past s);
-      of-a-trade = omega (arith, satisfaction-known past e b s);
+      of-a-trade = omega (arith, satisfaction-known h past e b s);
       size-fits = satisfaction-fits h e i s;
-      reason-fits = reason-at-most-14 h (caseOf day past (count isSatisfaction past) e);
+      reason-fits = reason-at-most-15 h (caseOf day past (count isSatisfaction past) e);
       claim-in-order = c .order-size;
       claim-in-customers = c .customer-contracts;
       unclaimed = no-claim-with-a-reason h (caseOf day past (count isSatisfaction past) e);

@@ -1,27 +1,26 @@
 -- Document 02, b: a record that cancels a Satisfaction Order and names the initiator moves the line of that order alone, and only if it
 -- came in time; a late one moves none. An order is cancelled at most once. So a journal without such a record keeps every verdict it had.
-use mathlib.Core.Path.{_≡_, refl, sym, ap, _∙_, subst}
+use mathlib.Core.Path.{_≡_, refl, sym, ap, _∙_}
 use mathlib.Core.Bool.{Bool, true, false, not, _&&_, _||_, false≢true, and-false}
 use mathlib.Core.List.{List, [], _∷_, map, map-append, map-id, append-nil, List·Memᴰ, List·Memᴰ·not-nil}
-use Prim.Native.Nat.{ℕ, _+_, _≤_, _<_}
+use Prim.Native.Nat.{ℕ, _+_, _<_}
 use native.Mathlib.Omega.{arith}
 use borrow.Author.Tests.{eqb-true, ne-eqb, not-true, ltb-true, lt-leb}
-use Rattle.rules.specs.Basics.{if_then_else_, _==_, _atLeast_, _moreThan_, all, any, keep, Row, _when_, firstOf}
+use Rattle.rules.specs.Basics.{if_then_else_, _==_, within, _moreThan_, all, any, keep, Row, _when_, firstOf}
 use Rattle.rules.specs.Header.{Header}
 use Rattle.rules.specs.Record.{Event, responseKind, satisfactionKind, namingKind, trade, satisfaction, tradeKind, isTrade, isSatisfaction, isNaming, naming}
-use Rattle.rules.specs.Journal.{History, count, tradeAt, satisfactionAt, names, namingBelongs, belongs}
-use Rattle.rules.specs.Reasons.{Case, caseOf, senderQuote, senderSide, customers, minutesFrom, namesInTime, required, reasonRows, reason}
+use Rattle.rules.specs.Journal.{History, count, tradeAt, satisfactionAt, names, cancels, namingBelongs, belongs}
+use Rattle.rules.specs.Reasons.{Case, caseOf, senderQuote, senderSide, customers, minutesFrom, sentAgainAfter, againLate, namesInTime, required, reasonRows, reason}
 use Rattle.rules.specs.Due.{leastOfThree, claim, Line, lineOf, linesOf, lines, ofTrade, due}
 use Rattle.rules.proofs.Tests.{byTest, and-left, and-right, or-left, or-right, map-same, keep-map-same, at-end, facts}
-use Rattle.rules.proofs.Histories.{count-cons, count-skip, count-grows, count-none, tradeAt-skip, beforeTrade-skip, satisfactionAt-older, satisfactionAt-new}
-use Rattle.rules.proofs.Journals.{Arrived, none, more}
+use Rattle.rules.proofs.Histories.{tradeAt-skip, beforeTrade-skip, satisfactionAt-older, satisfactionAt-new}
 use Rattle.rules.proofs.Lines.{firstOf-among, LineKnown, numbered-below}
 
 -- ---- "judged after 9 and before 11"
 
 -- no reason, or one that is judged after 14
 abbrev pub givesWay : ℕ → Bool
-givesWay why = why == 0 || why atLeast 11
+givesWay why = why == 0 || within 11 13 why
 
 -- the reason on an order that is cancelled in time, by the one that it would else have
 abbrev pub named : ℕ → ℕ
@@ -68,11 +67,11 @@ cancelled l =
 
 module _ (h : Header) (x : Event) (day past : History) (n : ℕ) (e : Event) where
   reason-kept : namesInTime h n e x ≡ false → reason h (caseOf (x ∷ day) past n e) ≡ reason h (caseOf day past n e)
-  unfolding reason caseOf any senderSide senderQuote required customers
+  unfolding reason caseOf any senderSide senderQuote required customers sentAgainAfter againLate
   reason-kept p = rw p
 
   reason-named : namesInTime h n e x ≡ true → reason h (caseOf (x ∷ day) past n e) ≡ named (reason h (caseOf day past n e))
-  unfolding reason caseOf any senderSide senderQuote required customers naming-holds inPlace all
+  unfolding reason caseOf any senderSide senderQuote required customers sentAgainAfter againLate naming-holds inPlace all
   reason-named p = rw p (firstOf-named _ refl)
 
   pub line-kept : namesInTime h n e x ≡ false → lineOf h (x ∷ day) past n e ≡ lineOf h day past n e
@@ -85,7 +84,7 @@ module _ (h : Header) (x : Event) (day past : History) (n : ℕ) (e : Event) whe
       let why : ℕ = reason h (caseOf day past n e) in
       rw (reason-named p)
       (unfold caseOf customers senderQuote senderSide leastOfThree in
-      byTest (givesWay why) (λ t. rw t) (λ t. rw (t, or-left (why == 0) (why atLeast 11) t)))
+      byTest (givesWay why) (λ t. rw t) (λ t. rw (t, or-left (why == 0) (within 11 13 why) t)))
 
 -- ---- one record more, and all lines
 
@@ -143,24 +142,25 @@ unfolding any names
 nothing-cancelled n [] p = refl
 nothing-cancelled n (x ∷ day) p = rw (or-left (isNaming x) (any isNaming day) p) (nothing-cancelled n day (or-right (isNaming x) (any isNaming day) p))
 
--- document 01's rows of the table: all but 14
-abbrev pub rows01 : List Row → List Row
-rows01 rows = keep (λ (r : Row). not (r .number == 14)) rows
+-- the table but for the rows of one number
+abbrev pub rowsBut : ℕ → List Row → List Row
+rowsBut n rows = keep (λ (r : Row). not (r .number == n)) rows
 
-firstOf-rows01 : (rows : List Row) → all (λ (r : Row). not (r .number == 14 && r .holds)) rows ≡ true → firstOf rows ≡ firstOf (rows01 rows)
+-- a row that does not hold may be left out
+pub firstOf-but : (n : ℕ) (rows : List Row) → all (λ (r : Row). not (r .number == n && r .holds)) rows ≡ true → firstOf rows ≡ firstOf (rowsBut n rows)
 unfolding firstOf keep all
-firstOf-rows01 [] e = refl
-firstOf-rows01 (r ∷ rows) e =
-    let ih = firstOf-rows01 rows (and-right (not (r .number == 14 && r .holds)) (all (λ (s : Row). not (s .number == 14 && s .holds)) rows) e) in
-    byTest (r .number == 14)
+firstOf-but n [] e = refl
+firstOf-but n (r ∷ rows) e =
+    let ih = firstOf-but n rows (and-right (not (r .number == n && r .holds)) (all (λ (s : Row). not (s .number == n && s .holds)) rows) e) in
+    byTest (r .number == n)
     (λ t. byTest (r .holds) (λ s. absurd (false≢true (rw (t, s) at e))) (λ s. rw (t, s) ih))
     (λ t. byTest (r .holds) (λ s. rw (t, s)) (λ s. rw (t, s) ih))
 
--- and the reason on each is the first that holds of document 01's
-pub reason-without-naming : (h : Header) (k : Case) → any isNaming (k .day) ≡ false → reason h k ≡ firstOf (rows01 (reasonRows h k))
+-- and the reason on each is the first that holds of the other rows
+pub reason-without-naming : (h : Header) (k : Case) → any isNaming (k .day) ≡ false → reason h k ≡ firstOf (rowsBut 14 (reasonRows h k))
 unfolding reason all
 reason-without-naming h k p =
-    firstOf-rows01 (reasonRows h k) (rw (not-cancelled-in-time h (k .number) (k .claim) (k .day) (nothing-cancelled (k .number) (k .day) p)))
+    firstOf-but 14 (reasonRows h k) (rw (not-cancelled-in-time h (k .number) (k .claim) (k .day) (nothing-cancelled (k .number) (k .day) p)))
 
 -- ---- what belongs: the order is known, its trade has the initiator that is named, and nothing has cancelled it
 
@@ -168,11 +168,11 @@ pub record NamingKnown (past : History) (x : Event) : Type 0 where
   pub order-known : (naming x) .order < count isSatisfaction past
   pub names-the-initiator : (naming x) .named ≡ (trade (tradeAt ((satisfaction (satisfactionAt ((naming x) .order) past)) .trade) past)) .initiator
   pub has-an-initiator : (trade (tradeAt ((satisfaction (satisfactionAt ((naming x) .order) past)) .trade) past)) .initiator ≡ 0 → ⊥
-  pub not-cancelled : any (names ((naming x) .order)) past ≡ false
+  pub not-cancelled : any (cancels ((naming x) .order)) past ≡ false
 
-pub naming-known : (past : History) (x : Event) → belongs past x ≡ true → isNaming x ≡ true → NamingKnown past x
+pub naming-known : (h : Header) (past : History) (x : Event) → belongs h past x ≡ true → isNaming x ≡ true → NamingKnown past x
 unfolding belongs namingBelongs
-naming-known past x b s =
+naming-known h past x b s =
     let k = eqb-true (x .kind) namingKind s in
     let other : (n : ℕ) → (n ≡ namingKind → ⊥) → (x .kind == n) ≡ false = λ n ne. ne-eqb (x .kind) n (λ q. ne (sym q ∙ k)) in
     let t = simp (other responseKind (λ q. omega arith), other satisfactionKind (λ q. omega arith), s, facts) at b in
@@ -182,29 +182,6 @@ naming-known past x b s =
       has-an-initiator = t .0 .0 .1;
       not-cancelled = not-true _ (t .1);
     }
-
--- no order that is still to come is cancelled
-pub none-cancelled-ahead : {h : Header} {past : History} → Arrived h past → (n : ℕ) → count isSatisfaction past ≤ n → any (names n) past ≡ false
-unfolding any names
-none-cancelled-ahead none n ahead = refl
-none-cancelled-ahead (more {past} {e} v i b r) n ahead =
-    let g = count-grows isSatisfaction e past in
-    let older = none-cancelled-ahead v n (omega arith) in
-    byTest (isNaming e)
-    (λ s. let k = naming-known past e b s in rw (older, ne-eqb ((naming e) .order) n (λ q. omega (arith, k .order-known)), and-false (isNaming e)))
-    (λ s. rw (older, s))
-
--- "a claim already cancelled is 7": an order is cancelled at most once
-pub cancelled-at-most-once : {h : Header} {past : History} → Arrived h past → (n : ℕ) → count (names n) past ≤ 1
-cancelled-at-most-once none n = unfold count keep in omega arith
-cancelled-at-most-once (more {past} {e} v i b r) n =
-    byTest (names n e)
-    (λ t.
-    let s : isNaming e ≡ true = unfold names in and-left (isNaming e) _ t in
-    let q : (naming e) .order ≡ n = eqb-true _ _ (unfold names in and-right (isNaming e) _ t) in
-    let z : count (names n) past ≡ 0 = count-none (names n) past (subst (λ (m : ℕ). any (names m) past ≡ false) q (naming-known past e b s .not-cancelled)) in
-    omega (arith, count-cons (names n) e past t))
-    (λ t. omega (arith, count-skip (names n) e past t, cancelled-at-most-once v n))
 
 -- ---- what such a record moves of a journal
 
@@ -235,7 +212,7 @@ module _ (h : Header) (past : History) (x : Event) where
   pub earlier-reason-stays : (l : Line) → LineKnown h past l → givesWay (l .reason) ≡ false → afterNaming h x past l ≡ l
   earlier-reason-stays l k stays =
       byTest (namesInTime h (l .number) (satisfactionAt (l .number) past) x)
-      (λ t. rw (t, stays, k .unclaimed (or-left (l .reason == 0) (l .reason atLeast 11) stays)))
+      (λ t. rw (t, stays, k .unclaimed (or-left (l .reason == 0) (within 11 13 (l .reason)) stays)))
       (λ t. rw t)
 
 -- the trade of a line stays, whatever comes

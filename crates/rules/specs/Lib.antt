@@ -4,10 +4,11 @@ pub mod Limits
 pub mod Number
 pub mod Header
 pub mod Record
-pub mod Journal
+pub mod History
 pub mod Prices
 pub mod Verdicts
 pub mod Reasons
+pub mod Journal
 pub mod Due
 pub mod OwnSheet
 pub mod SheetCheck

@@ -5,7 +5,7 @@ use mathlib.Core.List.{List, [], _∷_, _++_, map}
 use Rattle.rules.specs.Basics.{if_then_else_, _==_, _moreThan_, keep}
 use Rattle.rules.specs.Header.{Header}
 use Rattle.rules.specs.Record.{firm, notFirm, rotation, Event, Quote, quote, status, isQuote, isStatus}
-use Rattle.rules.specs.Journal.{History}
+use Rattle.rules.specs.History.{History}
 
 -- ---- "A price 0 is absent: above, below or equal to nothing, in every verdict."
 

@@ -55,7 +55,7 @@ oneLine n what v = record { event = n; what = what; says = v } ∷ []
 
 -- ---- what is printed of an event, after the history before it. "Event counts records from 0."
 
--- Q, S, R, T. "Away quotes, statuses and responses print nothing."; document 02, a: kind 9 "prints nothing"
+-- Q, S, R, T. "Away quotes, statuses and responses print nothing."; document 02, a: "It prints nothing, nor do kinds 8 and 11."
 unfoldable pub judged : Header → History → Event → List Printed
 judged h past e =
     let n = length past in

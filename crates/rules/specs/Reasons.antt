@@ -2,20 +2,23 @@
 use Prim.Native.Nat.{ℕ, _+_, _-_}
 use mathlib.Core.Bool.{Bool, not, _&&_, _||_}
 use mathlib.Core.List.{List, []}
+use lib.ListN.{length}
 use Rattle.rules.specs.Basics.{if_then_else_, _==_, _atMost_, _atLeast_, _moreThan_, any, below, Row, _when_, _¦_, firstOf}
 use Rattle.rules.specs.Limits.{closingMinutes}
 use Rattle.rules.specs.Header.{Header}
 use Rattle.rules.specs.Record.{complexTrade, buy, sell, Event, Quote, quote, trade, Order, order, response, satisfaction, isSent}
-use Rattle.rules.specs.Journal.{History, count, since, sentAt, tradeAt, beforeTrade, answers, names}
+use Rattle.rules.specs.History.{History, count, since, sentAt, tradeAt, beforeTrade, answers, names, takenBack}
 use Rattle.rules.specs.Prices.{absent, quotes, standing, nonFirm, inRotation}
 use Rattle.rules.specs.Verdicts.{theBid, neither, shown, worse, sideThrough, isBlock}
 
--- ---- the case of a Satisfaction Order: itself and its number, its trade, the history before the trade, and the whole day.
--- "Prices, customer contracts and statuses are those at the trade."; a later record of the day may cancel it.
+-- ---- the case of a Satisfaction Order: itself and its number, the history before it, its trade, the history before the trade,
+-- and the whole day. "Prices, customer contracts and statuses are those at the trade."; an earlier record may have let it be sent
+-- again, a later one may cancel it.
 
 pub record Case : Type 0 where
   pub number : ℕ
   pub claim : Event
+  pub past : History
   pub trade : Event
   pub before : History
   pub day : History
@@ -24,7 +27,7 @@ pub record Case : Type 0 where
 unfoldable pub caseOf : History → History → ℕ → Event → Case
 caseOf day past n e =
     let m = (satisfaction e) .trade in
-    record { number = n; claim = e; trade = tradeAt m past; before = beforeTrade m past; day = day }
+    record { number = n; claim = e; past = past; trade = tradeAt m past; before = beforeTrade m past; day = day }
 
 -- the sender's quote at the trade, and the side of it traded through
 unfoldable pub senderQuote : Case → Quote
@@ -96,6 +99,16 @@ timeToClaim h t = minutesFrom h (report t)
 unfoldable pub lateBy : ℕ → Event → Event → Bool
 lateBy allowed t e = e .time moreThan (report t + allowed)
 
+-- ---- 15: document 02, i: "the other exchange may send again within three minutes"
+
+-- the cancellation after which it was sent again; none for a first claim
+unfoldable pub sentAgainAfter : Case → History
+sentAgainAfter k = let c = satisfaction (k .claim) in takenBack (c .trade) (c .sender) (k .past)
+
+-- "later than 180,000 ms after the cancellation"
+unfoldable pub againLate : Case → Bool
+againLate k = any (λ (c : Event). k .claim .time moreThan (c .time + threeMinutes)) (sentAgainAfter k)
+
 -- ---- 14
 
 -- document 02, b: "we may cancel the Satisfaction Order and name the initiator, up to and including 180,000 ms after receiving
@@ -112,7 +125,8 @@ required h k =
     let q = senderQuote k in
     if isBlock h (k .before) t then t .price else if senderSide k == theBid then q .bid else q .offer
 
--- ---- the table: document 01's rows in their order, and document 02's 14, "judged after 9 and before 11"
+-- ---- the table: document 01's rows in their order, and document 02's: 14, "judged after 9 and before 11"; 15, which "stands in 8's
+-- place" for an order that was sent again: "The second is not judged by 8 or 9 but by reason 15"
 
 abbrev pub reasonRows : Header → Case → List Row
 reasonRows h k =
@@ -121,6 +135,7 @@ reasonRows h k =
     let side = senderSide k in
     let excusing : ℕ = if side == theBid then sell else buy in  -- "sell for a bid, buy for an offer"
     let initiated = not (t .initiator == 0) in
+    let first = length (sentAgainAfter k) == 0 in
     10 when side == neither
     ¦ 2 when hadSent (c .sender) (t .series) excusing (k .trade .time) (k .before)
     ¦ 3 when nonFirm (c .sender) (k .before)
@@ -128,8 +143,9 @@ reasonRows h k =
     ¦ 5 when inRotation (c .sender) (k .before)
     ¦ 6 when inRotation (h .home) (k .before)
     ¦ 7 when t .complex == complexTrade
-    ¦ 8 when not initiated && lateBy (timeToClaim h (k .trade)) (k .trade) (k .claim)
-    ¦ 9 when initiated && lateBy threeMinutes (k .trade) (k .claim)
+    ¦ 8 when first && not initiated && lateBy (timeToClaim h (k .trade)) (k .trade) (k .claim)
+    ¦ 15 when againLate k
+    ¦ 9 when first && initiated && lateBy threeMinutes (k .trade) (k .claim)
     ¦ 14 when any (namesInTime h (k .number) (k .claim)) (k .day)
     ¦ 11 when c .price == t .price && not (isBlock h (k .before) t)
     ¦ 12 when not (c .price == required h k)

@@ -27,7 +27,8 @@ quoteUnfit = 6
 
 -- "unknown trade or sent order, a second response, a fill above the order, a second Satisfaction Order of one exchange for one trade";
 -- document 02, a: "a second kind 9"; document 02, b: "an unknown Satisfaction Order, a trade without initiator, a named exchange that
--- is not the initiator, or a claim already cancelled"
+-- is not the initiator, or a claim already cancelled"; document 02, i: "kind 11 for an unknown claim, a block, a price that is not the
+-- trade's, more than 180,000 ms after the claim, a claim already cancelled by kind 8 or 11, or a second kind 11 for the exchange and trade"
 abbrev pub doesNotBelong : ℕ
 doesNotBelong = 7
 

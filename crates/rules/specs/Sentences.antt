@@ -71,6 +71,26 @@ claimedAt elapsed price = twoBids (startedByFour 0 ∷ claims elapsed 2 price 30
 abbrev pub claimedForNobody : List (List ℕ)
 claimedForNobody = (1 ∷ 0 ∷ 2 ∷ 0 ∷ 110 ∷ 30 ∷ 0 ∷ 0 ∷ 0 ∷ 0 ∷ []) ∷ startedByFour 0 ∷ claims 0 2 110 30 ∷ cancels 0 0 4 ∷ []
 
+-- ---- document 02, i. Exchange 2 bids 110; home trades 30 at 100, which is no block, or exchange 4 started the same trade; at once exchange 2
+-- claims at a price. Then records of kind 11, which take a claim back, and further claims.
+
+abbrev pub takesBack : ℕ → ℕ → List ℕ
+takesBack elapsed n = 11 ∷ elapsed ∷ n ∷ []
+
+abbrev pub pricedAt : ℕ → List (List ℕ) → List (List ℕ)
+pricedAt price more = bids 2 110 30 ∷ trades 0 100 30 0 ∷ claims 0 2 price 30 ∷ more
+
+abbrev pub startedAndPriced : List (List ℕ) → List (List ℕ)
+startedAndPriced more = bids 2 110 30 ∷ startedByFour 0 ∷ claims 0 2 100 30 ∷ more
+
+-- taken back so many milliseconds after the claim, and sent again so many after that
+abbrev pub sentAgain : ℕ → ℕ → List (List ℕ)
+sentAgain after again = takesBack after 0 ∷ claims again 2 110 30 ∷ []
+
+-- a block: 500 at 300, outside, a cross; claimed at its price, which is the one required
+abbrev pub blockTakenBack : List (List ℕ)
+blockTakenBack = bids 2 310 30 ∷ trades 0 300 500 1 ∷ claims 0 2 300 30 ∷ takesBack 0 0 ∷ []
+
 -- the claims of trade 0, and its due total
 abbrev pub claimed : Answer Journal → List ℕ
 claimed (refused n p) = []
@@ -139,4 +159,26 @@ sentences =
     ∷ example 44 (refusal (journal (written (claimedThen 0 (cancels 0 0 5 ∷ []))))) (5 ∷ 55 ∷ [])
     -- 5 before 7
     ∷ example 45 (refusal (journal (written (claimedThen 0 (cancels 0 2 0 ∷ []))))) (5 ∷ 55 ∷ [])
+    -- document 02, i: "not judged by 8 or 9 but by reason 15: later than 180,000 ms after the cancellation"; "The first keeps the reason it has"
+    ∷ prints 46 "event what a b c\n1 T 0 1 0\n2 F 11 0 30\n4 F 0 30 0\n" (pricedAt 100 (sentAgain 180_000 180_000))
+    ∷ example 47 (claimed (journal (written (pricedAt 100 (sentAgain 180_000 180_000))))) (0 ∷ 30 ∷ 30 ∷ [])
+    ∷ prints 48 "event what a b c\n1 T 0 1 0\n2 F 11 0 30\n4 F 15 0 30\n" (pricedAt 100 (sentAgain 180_000 180_001))
+    ∷ prints 49 "event what a b c\n1 T 0 1 0\n2 F 11 0 30\n4 F 0 30 0\n" (startedAndPriced (sentAgain 180_000 180_000))
+    -- "15 stands in 8's place": before 14, which a second claim in time may have
+    ∷ prints 50 "event what a b c\n1 T 0 1 0\n2 F 11 0 30\n4 F 15 0 30\n" (startedAndPriced (sentAgain 0 180_001 ++ (cancels 0 1 4 ∷ [])))
+    ∷ prints 51 "event what a b c\n1 T 0 1 0\n2 F 11 0 30\n4 F 14 0 30\n" (startedAndPriced (sentAgain 0 180_000 ++ (cancels 0 1 4 ∷ [])))
+    -- "kind 11 for an unknown claim"; "a block"; "a price that is not the trade's"; "more than 180,000 ms after the claim"
+    ∷ example 52 (refusal (journal (written (pricedAt 100 (takesBack 0 1 ∷ []))))) (7 ∷ 39 ∷ [])
+    ∷ example 53 (refusal (journal (written blockTakenBack))) (7 ∷ 43 ∷ [])
+    ∷ example 54 (refusal (journal (written (pricedAt 110 (takesBack 0 0 ∷ []))))) (7 ∷ 39 ∷ [])
+    ∷ example 55 (refusal (journal (written (pricedAt 100 (takesBack 180_001 0 ∷ []))))) (7 ∷ 39 ∷ [])
+    -- "a claim already cancelled by kind 8 or 11", and then by kind 8 too
+    ∷ example 56 (refusal (journal (written (startedAndPriced (cancels 0 0 4 ∷ takesBack 0 0 ∷ []))))) (7 ∷ 43 ∷ [])
+    ∷ example 57 (refusal (journal (written (pricedAt 100 (takesBack 0 0 ∷ takesBack 0 0 ∷ []))))) (7 ∷ 42 ∷ [])
+    ∷ example 58 (refusal (journal (written (startedAndPriced (takesBack 0 0 ∷ cancels 0 0 4 ∷ []))))) (7 ∷ 42 ∷ [])
+    -- "a second kind 11 for the exchange and trade"
+    ∷ example 59 (refusal (journal (written (pricedAt 100 (takesBack 0 0 ∷ claims 0 2 100 30 ∷ takesBack 0 1 ∷ []))))) (7 ∷ 48 ∷ [])
+    -- "one that is not so cancelled": a third claim is 7, and so is a second after kind 8
+    ∷ example 60 (refusal (journal (written (pricedAt 100 (sentAgain 0 0 ++ (claims 0 2 110 30 ∷ [])))))) (7 ∷ 48 ∷ [])
+    ∷ example 61 (refusal (journal (written (startedAndPriced (cancels 0 0 4 ∷ claims 0 2 110 30 ∷ []))))) (7 ∷ 43 ∷ [])
     ∷ []

@@ -5,7 +5,7 @@ use mathlib.Core.List.{List, [], _∷_}
 use Rattle.rules.specs.Basics.{if_then_else_, _==_, _atMost_, _atLeast_, within, keep, _when_, _¦_, firstOf}
 use Rattle.rules.specs.Header.{Header, automatic, principal}
 use Rattle.rules.specs.Record.{crossForm, otherForm, linked, buy, Quote, Trade, Order}
-use Rattle.rules.specs.Journal.{History}
+use Rattle.rules.specs.History.{History}
 use Rattle.rules.specs.Prices.{absent, _isAbove_, _isBelow_, _equals_, standing, nonFirm, away, bestBid, bestOffer}
 
 -- the three numbers that a line of the printed day ends with

@@ -7,6 +7,7 @@ use native.Mathlib.Omega.{arith}
 use lib.ListN.{length, take, set, replicate}
 use lib.Seq.{take-set-lt, drop-set-lt}
 use Rattle.rules.specs.Basics.{sum}
+use Rattle.rules.specs.Limits.{mostTradeLines}
 use Rattle.rules.specs.Due.{Line, claimsOf, Share}
 use Rattle.rules.specs.OwnSheet.{giveOne, give, empty}
 use Rattle.rules.specs.SheetCheck.{fillsOf}
@@ -123,16 +124,16 @@ none-filled [] n h = refl
 none-filled (l ∷ ls) zero h = absurd (omega arith)
 none-filled (l ∷ ls) (suc n) h = ap (λ (x : List ℕ). 0 ∷ x) (none-filled ls n (omega arith))
 
-empty-gathered : (ls : List Line) (claim customers fill : List ℕ) (k : ℕ) → take k fill ≡ take k (replicate 8 0) → Lined ls claim customers k
+empty-gathered : (ls : List Line) (claim customers fill : List ℕ) (k : ℕ) → take k fill ≡ take k (replicate mostTradeLines 0) → Lined ls claim customers k
     → Gathered (map empty ls) claim customers fill k
 empty-gathered ls claim customers fill k e l =
     record {
       lined = subst (λ (x : List Line). Lined x claim customers k) (sym (empty-lines ls)) l;
-      fills = e ∙ ap (λ (n : ℕ). take n (replicate 8 0)) (l .many) ∙ none-filled ls 8 (omega (arith, l .many, l .few));
+      fills = e ∙ ap (λ (n : ℕ). take n (replicate mostTradeLines 0)) (l .many) ∙ none-filled ls mostTradeLines (omega (arith, l .many, l .few));
     }
 
 module _ (claim customers : List ℕ) (k due : ℕ) (before after : List ℕ) where
-  pub shared-in-turn : (start : List ℕ) → Copied (replicate 8 0) k before start → Given claim customers k due start after
+  pub shared-in-turn : (start : List ℕ) → Copied (replicate mostTradeLines 0) k before start → Given claim customers k due start after
       → SharedOut claim customers k due before after
   shared-in-turn start c g =
       record {

@@ -1,7 +1,9 @@
-// How what is due on a trade is shared out among its lines, which are the first k words of eight, as in `fairness`.
+// How what is due on a trade is shared out among its lines, which are the first k words of arrays, as in `fairness`.
 ghost use mathlib.Core.Path.{_≡_};
 ghost use Prim.Native.Nat.{_≤_};
+ghost use Rattle.rules.specs.Limits.{mostTradeLines};
 ghost use Rattle.sharing.specs.Turns.{soonerOf, NextTurn, Given, SharedOut};
+use rows::TradeLines;
 
 // The line that the next contract goes to: its number, its fill with that contract, its customer contracts.
 struct Turn {
@@ -31,8 +33,13 @@ fn sooner(best: Turn, line: usize, fill: u32, claim: u32, customers: u32) -> Tur
 }
 
 // Where every line is filled, the answer's line is k: one contract on no customer contracts comes after any line's turn.
-fn next_turn(claim: &[u32; 8], customers: &[u32; 8], fill: &[u32; 8], k: usize) -> Turn
-    requires { ⌜ k ≤ 8 ⌝ }
+fn next_turn(
+    claim: &[u32; TradeLines::MOST],
+    customers: &[u32; TradeLines::MOST],
+    fill: &[u32; TradeLines::MOST],
+    k: usize,
+) -> Turn
+    requires { ⌜ k ≤ mostTradeLines ⌝ }
     ensures { λ r. ⌜ NextTurn (now (claim .entry)) (now (customers .entry)) (now (fill .entry)) k r ⌝ }
 {
     let mut turn = Turn {
@@ -50,13 +57,13 @@ fn next_turn(claim: &[u32; 8], customers: &[u32; 8], fill: &[u32; 8], k: usize) 
 
 // "one contract at a time, each to the unfilled line with the least (fill + 1) per customer contract": so many more, or until every line is filled.
 fn give_in_turn(
-    claim: &[u32; 8],
-    customers: &[u32; 8],
+    claim: &[u32; TradeLines::MOST],
+    customers: &[u32; TradeLines::MOST],
     k: usize,
     contracts: u64,
-    fill: &mut [u32; 8],
+    fill: &mut [u32; TradeLines::MOST],
 )
-    requires { ⌜ k ≤ 8 ⌝ }
+    requires { ⌜ k ≤ mostTradeLines ⌝ }
     ensures { λ _. ⌜ Given (now (claim .entry)) (now (customers .entry)) k contracts (now (fill .entry)) (now (fill .exit)) ⌝ }
 {
     let mut given: u64 = 0;
@@ -72,15 +79,21 @@ fn give_in_turn(
 }
 
 // The fills of our own sheet. Where all claims are due each line gets its claim at once. Words of fill from k on stay.
-pub fn share_out(claim: &[u32; 8], customers: &[u32; 8], k: usize, due: u64, fill: &mut [u32; 8])
-    requires { ⌜ k ≤ 8 ⌝ }
+pub fn share_out(
+    claim: &[u32; TradeLines::MOST],
+    customers: &[u32; TradeLines::MOST],
+    k: usize,
+    due: u64,
+    fill: &mut [u32; TradeLines::MOST],
+)
+    requires { ⌜ k ≤ mostTradeLines ⌝ }
     ensures { λ _. ⌜ SharedOut (now (claim .entry)) (now (customers .entry)) k due (now (fill .entry)) (now (fill .exit)) ⌝ }
 {
     if due == fairness::total(claim, k) {
         rows::copy_first(claim, k, fill);
         return;
     }
-    let none = [0u32; 8];
+    let none = [0u32; TradeLines::MOST];
     rows::copy_first(&none, k, fill);
     give_in_turn(claim, customers, k, due, fill);
 }

@@ -7,6 +7,7 @@ use lib.Dec.{eqb}
 use lib.ListN.{getD, length, take, replicate, set, length-set}
 use lib.Seq.{getD-take, getD-set-same, getD-set-other}
 use borrow.Author.Tests.{eqb-true, eqb-false}
+use Rattle.rules.specs.Limits.{mostTradeLines}
 use Rattle.rules.specs.Journal.{Journal}
 use Rattle.rules.specs.Due.{Line, lines, ofTrade, due}
 use Rattle.rules.specs.OwnSheet.{ownShares, ownFill, give, empty}
@@ -43,8 +44,8 @@ module _ (cl : List ℕ) (m k : ℕ) (fill fills : List ℕ) where
       pub line-there : k ≤ manyOf cl m → i < manyOf cl m
       line-there a = omega arith
 
-      pub fill-there : Findable cl m → k ≤ manyOf cl m → i < 8
-      fill-there f a = omega (arith, f .eight)
+      pub fill-there : Findable cl m → k ≤ manyOf cl m → i < mostTradeLines
+      fill-there f a = omega (arith, f .few-lines)
 
       pub scattered-more : (p : ℕ) → NumberIs cl m i p → Scattering cl m k fill fills (set fills2 p (getD fill i 0)) (i + 1)
       scattered-more p is =
@@ -124,14 +125,14 @@ module _ (cl tr : List ℕ) (m : ℕ) (f : Findable cl m) where
   trade-low = f .trade
 
   module _ (claim customers : List ℕ) (k : ℕ) (g : Gathered cl m claim customers k) where
-    pub gathered-few : k ≤ 8
+    pub gathered-few : k ≤ mostTradeLines
     gathered-few = g .few
 
     pub gathered-many : k ≤ manyOf cl m
     gathered-many = omega (arith, g .many)
 
     module _ (fills : List ℕ) (d : ℕ) (is : DueIs cl tr m d) (w : ℕ) (wide : (w ≡ d) × (w < 4294967296))
-        (fill : List ℕ) (s : SharedOut claim customers k w (replicate 8 0) fill) (fills2 : List ℕ) (sc : Scattered cl m fill fills fills2 k) where
+        (fill : List ℕ) (s : SharedOut claim customers k w (replicate mostTradeLines 0) fill) (fills2 : List ℕ) (sc : Scattered cl m fill fills fills2 k) where
       module _ (j : Journal) (trades n : ℕ) (b : Books j tr cl trades n) (hm : m < trades) where
         due-total : w ≡ due j m
         due-total = wide .0 ∙ is .so (j .header) (j .history) (b .snaps) trades n hm (f .trade) (b .traded) (b .lined)

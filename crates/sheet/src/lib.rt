@@ -8,10 +8,17 @@ ghost use Rattle.sheet.specs.Tables.{Scattered, FillsTrade, OwnFills};
 ghost use Rattle.sheet.specs.Written.{threeAt, bytesTo, PutsNumber, PutsLine, PutsLines, OwnWritten};
 use claims::Line;
 use rows::Refusal;
+use rows::TradeLines;
 use text::Written;
 
 // Of trade m's first k lines each gets its fill, at the word of its number.
-fn scatter(cl: &[u32; 6144], m: usize, k: usize, fill: &[u32; 8], fills: &mut [u32; 512])
+fn scatter(
+    cl: &[u32; Line::WORDS],
+    m: usize,
+    k: usize,
+    fill: &[u32; TradeLines::MOST],
+    fills: &mut [u32; 512],
+)
     requires { ⌜ Findable (now cl) m ⌝ }
     requires { ⌜ k ≤ manyOf (now cl) m ⌝ }
     ensures { λ _. ⌜ Scattered (now (cl .entry)) m (now (fill .entry)) (now (fills .entry)) (now (fills .exit)) k ⌝ }
@@ -25,13 +32,13 @@ fn scatter(cl: &[u32; 6144], m: usize, k: usize, fill: &[u32; 8], fills: &mut [u
 }
 
 // The due total of trade m shared out among its lines.
-fn fill_trade(cl: &[u32; 6144], tr: &[u32; 1024], m: usize, fills: &mut [u32; 512])
+fn fill_trade(cl: &[u32; Line::WORDS], tr: &[u32; 1024], m: usize, fills: &mut [u32; 512])
     requires { ⌜ Findable (now cl) m ⌝ }
     ensures { λ _. ⌜ FillsTrade (now (cl .entry)) (now (tr .entry)) m (now (fills .entry)) (now (fills .exit)) ⌝ }
 {
-    let mut claim = [0u32; 8];
-    let mut customers = [0u32; 8];
-    let mut fill = [0u32; 8];
+    let mut claim = [0u32; TradeLines::MOST];
+    let mut customers = [0u32; TradeLines::MOST];
+    let mut fill = [0u32; TradeLines::MOST];
     let k = claims::gather(cl, m, &mut claim, &mut customers);
     let due = claims::due_total(cl, tr, m);
     sharing::share_out(&claim, &customers, k, rows::wide(due), &mut fill);
@@ -40,7 +47,7 @@ fn fill_trade(cl: &[u32; 6144], tr: &[u32; 1024], m: usize, fills: &mut [u32; 51
 
 // What each line is filled in our own sheet.
 pub fn own_fills(
-    cl: &[u32; 6144],
+    cl: &[u32; Line::WORDS],
     tr: &[u32; 1024],
     trades: usize,
     n: usize,
@@ -67,7 +74,7 @@ fn cancelled(size: u32, filled: u32) -> u32
 }
 
 // "A sheet line: reason, filled, cancelled."
-pub fn own_line(cl: &[u32; 6144], fills: &[u32; 512], i: usize) -> [u32; 3]
+pub fn own_line(cl: &[u32; Line::WORDS], fills: &[u32; 512], i: usize) -> [u32; 3]
     requires { ⌜ i < mostSatisfactionOrders ⌝ }
     ensures { λ r. ⌜ r ≡ threeAt (now (cl .entry)) (now (fills .entry)) i ⌝ }
 {
@@ -77,7 +84,7 @@ pub fn own_line(cl: &[u32; 6144], fills: &[u32; 512], i: usize) -> [u32; 3]
 }
 
 // How many bytes the n lines take.
-fn sheet_width(cl: &[u32; 6144], fills: &[u32; 512], n: usize) -> usize
+fn sheet_width(cl: &[u32; Line::WORDS], fills: &[u32; 512], n: usize) -> usize
     requires { ⌜ n ≤ mostSatisfactionOrders ⌝ }
     ensures { λ r. ⌜ Takes (bytesTo (now (cl .entry)) (now (fills .entry)) n) (n * 12) r ⌝ }
 {
@@ -110,7 +117,7 @@ fn put_line(out: &mut [u8], at: usize, line: [u32; 3]) -> usize
 }
 
 // Line after line; there is room for them.
-fn put_lines(out: &mut [u8], cl: &[u32; 6144], fills: &[u32; 512], n: usize) -> usize
+fn put_lines(out: &mut [u8], cl: &[u32; Line::WORDS], fills: &[u32; 512], n: usize) -> usize
     requires { ⌜ n ≤ mostSatisfactionOrders ⌝ }
     ensures { λ r. ⌜ PutsLines (now (out .entry)) (now (cl .entry)) (now (fills .entry)) n (now (out .exit)) r ⌝ }
 {
@@ -126,7 +133,7 @@ fn put_lines(out: &mut [u8], cl: &[u32; 6144], fills: &[u32; 512], n: usize) -> 
 
 // Our own sheet of the journal whose tables these are, or 9 and nothing.
 pub fn write_own(
-    cl: &[u32; 6144],
+    cl: &[u32; Line::WORDS],
     tr: &[u32; 1024],
     trades: usize,
     n: usize,

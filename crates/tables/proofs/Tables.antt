@@ -5,8 +5,9 @@ use mathlib.Core.List.{List, []}
 use Prim.Native.Nat.{ℕ, _<_, _≤_}
 use native.Mathlib.Omega.{arith}
 use lib.ListN.{replicate}
+use Rattle.rules.specs.Limits.{mostTradeLines}
 use Rattle.rules.specs.Header.{Header}
-use Rattle.rules.specs.Record.{tradeKind, sentKind, responseKind, satisfactionKind, namingKind}
+use Rattle.rules.specs.Record.{tradeKind, sentKind, responseKind, satisfactionKind, namingKind, cancellationKind}
 use Rattle.rows.specs.Rows.{word, RecOk}
 use Rattle.rows.specs.declared.Rec.{Rec}
 use Rattle.quotes.specs.Tables.{QuotesStep, StatusesStep}
@@ -17,7 +18,7 @@ use Rattle.excuses.specs.Excuses.{ExcusesStep}
 use Rattle.excuses.proofs.Steps as excuse-laws
 use Rattle.trades.specs.Trades.{TradesStep}
 use Rattle.trades.proofs.Trades as trade-laws
-use Rattle.claims.specs.Lines.{manyOf, Cancellable, ClaimsStep}
+use Rattle.claims.specs.Lines.{lineWords, manyOf, Cancellable, ClaimsStep}
 use Rattle.claims.proofs.Lines as line-laws
 use Rattle.claims.proofs.Due as due-laws
 use Rattle.rows.specs.declared.Numbers.{Numbers}
@@ -29,10 +30,11 @@ pub all-kept : (r : Rec) (home exchanges close : ℕ) (sizes : List ℕ) (block 
     → TradesStep r home exchanges sizes block closing q st t (c .orders) tr sn (c .trades) tr2 sn2 trades
     → ExcusesStep r t (c .orders) t2 ch2 orders → QuotesStep r q q2 → StatusesStep r st st2
     → TablesStep r home exchanges close sizes q st t tr sn cl c closing q2 st2 t2 ch2 tr2 sn2 cl2
-    (record { orders = orders; trades = trades; lines = lines })
+    (record { numbers = record { orders = orders; trades = trades; lines = lines }; block = block })
 all-kept r home exchanges close sizes block q st t tr sn cl c closing q2 st2 t2 ch2 tr2 sn2 cl2 orders trades lines found by-claim by-trade by-order by-quote by-status =
     record {
       orderly = record { chains = by-order .chains; filing = by-claim .filing; few = by-trade .few };
+      found = found;
       so =
           λ h e past arrived is ec rd closes held. record {
             quoted = by-quote .so e past rd (held .quoted);
@@ -50,9 +52,10 @@ pub record Room (r : Rec) (cl : List ℕ) (c : Numbers) : Type 0 where
   pub trade : r .kind ≡ tradeKind → c .trades < 128
   pub line : r .kind ≡ satisfactionKind → c .lines < 512
   pub known : r .kind ≡ satisfactionKind → word r 0 < c .trades
-  pub eighth : r .kind ≡ satisfactionKind → manyOf cl (word r 0) < 8
+  pub line-left : r .kind ≡ satisfactionKind → manyOf cl (word r 0) < mostTradeLines
   pub cancelled : r .kind ≡ namingKind → word r 0 < c .lines
   pub cancellable : r .kind ≡ namingKind → Cancellable cl (word r 0)
+  pub withdrawn : r .kind ≡ cancellationKind → word r 0 < c .lines
 
 pub record-placed : (exchanges home : ℕ) (r : Rec) (cl : List ℕ) (c : Numbers) → RecOk exchanges home r → exchanges ≤ 8 → Room r cl c
     → Placed r cl exchanges c
@@ -61,13 +64,13 @@ record-placed exchanges home r cl c ok few room =
       quote = quote-laws.record-placed exchanges home r ok few;
       order = excuse-laws.record-placed exchanges home (c .orders) r ok few (room .order) (room .response);
       trade = trade-laws.record-placed exchanges home (c .trades) r ok few (room .trade);
-      claim = line-laws.record-placed exchanges home r cl (c .trades) (c .lines) ok (room .known) (room .eighth) (room .line) (room .cancelled) (room .cancellable);
+      claim = line-laws.record-placed exchanges home r cl (c .trades) (c .lines) ok (room .known) (room .line-left) (room .line) (room .cancelled) (room .cancellable) (room .withdrawn);
     }
 
 -- the start
 
 pub holds-none : (h : Header)
-    → Holds h [] (replicate 2048 0) (replicate 8 0) (replicate 2048 0) (replicate 1024 0) (replicate 8192 0) (replicate 6144 0)
+    → Holds h [] (replicate 2048 0) (replicate 8 0) (replicate 2048 0) (replicate 1024 0) (replicate 8192 0) (replicate lineWords 0)
     (record { orders = 0; trades = 0; lines = 0 })
 holds-none h =
     record {
@@ -78,5 +81,5 @@ holds-none h =
       lined = due-laws.lines-none h;
     }
 
-pub orderly-none : Orderly (replicate 2048 0) (replicate 512 0) (replicate 6144 0) (record { orders = 0; trades = 0; lines = 0 })
+pub orderly-none : Orderly (replicate 2048 0) (replicate 512 0) (replicate lineWords 0) (record { orders = 0; trades = 0; lines = 0 })
 orderly-none = record { chains = excuse-laws.no-chains; filing = due-laws.nothing-filed; few = omega arith }

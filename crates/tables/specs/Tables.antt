@@ -12,10 +12,12 @@ use Rattle.rows.specs.Rows.{Reads}
 use Rattle.rows.specs.declared.Rec.{Rec}
 use Rattle.quotes.specs.Tables as quotes
 use Rattle.orders.specs.Orders.{Heads}
+use Rattle.through.specs.Trades.{BlockFound}
 use Rattle.excuses.specs.Excuses as excuses
 use Rattle.trades.specs.Trades as trades
 use Rattle.claims.specs.Lines as claims
 use Rattle.rows.specs.declared.Numbers.{Numbers}
+use Rattle.tables.specs.declared.Kept.{Kept}
 
 pub record Holds (h : Header) (past : History) (q st t tr sn cl : List ℕ) (c : Numbers) : Type 0 where
   pub quoted : quotes.Quoted past q
@@ -38,7 +40,8 @@ pub record Placed (r : Rec) (cl : List ℕ) (exchanges : ℕ) (c : Numbers) : Ty
   pub claim : claims.Placed r cl (c .trades) exchanges (c .lines)
 
 pub record TablesStep (r : Rec) (home exchanges close : ℕ) (sizes : List ℕ) (q st t tr sn cl : List ℕ) (c : Numbers) (closing : Bool)
-    (q2 st2 t2 ch2 tr2 sn2 cl2 : List ℕ) (c2 : Numbers) : Type 0 where
-  pub orderly : Orderly t2 ch2 cl2 c2
+    (q2 st2 t2 ch2 tr2 sn2 cl2 : List ℕ) (after : Kept) : Type 0 where
+  pub orderly : Orderly t2 ch2 cl2 (after .numbers)
+  pub found : BlockFound q exchanges r (after .block)
   pub so : (h : Header) (e : Event) (past : History) → Arrived h past → Heads h exchanges home sizes → h .close ≡ close → Reads e r → closing ≡ closingBegun past
-      → Holds h past q st t tr sn cl c → Holds h (e ∷ past) q2 st2 t2 tr2 sn2 cl2 c2
+      → Holds h past q st t tr sn cl c → Holds h (e ∷ past) q2 st2 t2 tr2 sn2 cl2 (after .numbers)

@@ -1,9 +1,16 @@
 // All tables of a day's events, and one record more: quotes and statuses as they stand, sent orders, trades, Satisfaction Orders.
 ghost use Rattle.orders.specs.Orders.{Headed};
 ghost use Rattle.tables.specs.Tables.{Orderly, Placed, TablesStep};
+use claims::Line;
 use rows::Numbers;
 use rows::Rec;
 use rows::Seat;
+
+// How many of each the tables hold after a record, and whether it is a block trade.
+pub struct Kept {
+    pub numbers: Numbers,
+    pub block: bool,
+}
 
 // Each step is lent the tables of the moment before the record, as its contract asks: so a Satisfaction Order comes before trades
 // are kept, and a trade before sent orders, quotes and statuses are. The tables would be the same in any order after
@@ -16,13 +23,13 @@ pub fn keep(
     ch: &mut [u32; 512],
     tr: &mut [u32; 1024],
     sn: &mut [u32; 8192],
-    cl: &mut [u32; 6144],
+    cl: &mut [u32; Line::WORDS],
     c: Numbers,
     closing: bool,
     seat: Seat,
     sizes: &[u32; 16],
     r: Rec,
-) -> Numbers
+) -> Kept
     requires { ⌜ Headed (seat .exchanges) (seat .home) ⌝ }
     requires { ⌜ Placed r (now cl) (seat .exchanges) c ⌝ }
     requires { ⌜ Orderly (now t) (now ch) (now cl) c ⌝ }
@@ -34,9 +41,10 @@ pub fn keep(
     let orders = excuses::keep_excuses(t, ch, c.orders, r);
     quotes::keep_quote(q, r);
     quotes::keep_status(st, r);
-    Numbers {
+    let numbers = Numbers {
         orders,
         trades,
         lines,
-    }
+    };
+    Kept { numbers, block }
 }

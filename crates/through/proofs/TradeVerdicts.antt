@@ -16,7 +16,7 @@ use Rattle.rules.specs.Journal.{History}
 use Rattle.rules.specs.Prices.{standing, upTo, everyone, away, bestBid, bestOffer}
 use Rattle.rules.specs.Verdicts.{through, sideThrough, throughs, isBlock}
 use Rattle.rules.proofs.Tests.{byTest, keep-more}
-use Rattle.rows.specs.Rows.{Reads, TradeOk}
+use Rattle.rows.specs.Rows.{Reads, TradeOk, RecOk}
 use Rattle.rows.specs.declared.Rec.{Rec}
 use Rattle.rows.proofs.Rows.{words-product-fits}
 use Rattle.quotes.specs.Tables.{Quoted}
@@ -185,6 +185,23 @@ trade-is r e reads t is =
 
 pub series-low : (m : ℕ) (r : Rec) (t : Trade) → TradeOk m r → TradeIs r t → t .series < 32
 series-low m r t ok is = omega (arith, ok .series, is .series)
+
+pub record-placed : (n home : ℕ) (r : Rec) → RecOk n home r → n ≤ 8 → TradePlaced r
+record-placed n home r ok few =
+    record {
+      trade = λ k. let g = ok .trade k in
+          record {
+            series = g .series;
+            price = g .price;
+            price-from-one = g .price-from-one;
+            size = g .size;
+            size-from-one = g .size-from-one;
+            form = g .form;
+            complex = g .complex;
+            initiator = omega (arith, g .initiator);
+            delay = g .delay;
+          };
+    }
 
 module _ (q : List ℕ) (n : ℕ) (r : Rec) where
   pub trade-series : (t : Trade) → TradeIs r t → TradePlaced r → r .kind ≡ paper.tradeKind → t .series < 32

@@ -6,7 +6,7 @@ use crate::header::Header;
 use crate::number::put;
 use crate::record::kind;
 
-const LAST_TIME: u32 = 86_399_999;
+pub(super) const LAST_TIME: u32 = 86_399_999;
 
 /// A trade as its Satisfaction Orders need it.
 #[derive(Clone, Copy)]
@@ -17,18 +17,33 @@ struct Made {
     report: u32,
     /// Bid and offer of each exchange at the trade.
     shown: [[u32; 2]; 9],
-    /// One bit for each exchange that has sent a Satisfaction Order.
+    block: bool,
+    /// One bit for each exchange with a Satisfaction Order that was not cancelled as no block.
     asked: u32,
+    /// One bit for each exchange with one that was.
+    no_block: u32,
+}
+
+impl Made {
+    /// The bid or offer traded through, where there is one.
+    fn through(&self, exchange: u32) -> u32 {
+        let [bid, offer] = self.shown[exchange as usize];
+        if bid > self.price || offer == 0 { bid } else { offer }
+    }
 }
 
 /// A Satisfaction Order as its cancellation needs it.
 #[derive(Clone, Copy)]
 pub(super) struct Asked {
+    pub trade: usize,
     pub from: u32,
+    pub price: u32,
     pub received: u32,
     /// Of its trade; 0 where there is none.
     pub initiator: u32,
     pub cancelled: bool,
+    /// When it was cancelled as no block.
+    pub no_block: Option<u32>,
 }
 
 struct Sent {
@@ -71,6 +86,8 @@ pub struct Activity<'c> {
     pub(super) least: u32,
     /// How many of a hundred trades come from another exchange's linkage order.
     pub initiated: usize,
+    /// How many of a hundred Satisfaction Orders are priced as a block's, beside those that are by chance.
+    pub(super) as_block: usize,
     /// Bid and offer by series and exchange.
     shown: [[[u32; 2]; 9]; 32],
     statuses: [u32; 9],
@@ -112,6 +129,7 @@ impl<'c> Activity<'c> {
             level,
             least: away_with_least_size(header),
             initiated: 25,
+            as_block: 0,
             shown: [[[0; 2]; 9]; 32],
             statuses: [0; 9],
             trades: Vec::new(),
@@ -197,7 +215,7 @@ impl<'c> Activity<'c> {
         1 + (self.home + self.chance.below(self.exchanges as usize - 1) as u32) % self.exchanges
     }
 
-    fn away_exchanges(&self) -> Vec<u32> {
+    pub(super) fn away_exchanges(&self) -> Vec<u32> {
         (1..=self.exchanges).filter(|&exchange| exchange != self.home).collect()
     }
 
@@ -222,6 +240,14 @@ impl<'c> Activity<'c> {
             let exchange = self.away();
             self.add(2, time - self.time, &[exchange, self.statuses[exchange as usize]]);
         }
+    }
+
+    /// The time is close less 300,000 or a little later, where it has not passed.
+    pub fn move_near_close(&mut self) {
+        let later = self.chance.between(0, 2);
+        let milliseconds = self.until(self.close - 300_000 + later);
+        let exchange = self.away();
+        self.add(2, milliseconds, &[exchange, self.statuses[exchange as usize]]);
     }
 
     pub fn quote(&mut self, exchange: u32, series: u32, prices: [u32; 2]) {
@@ -306,11 +332,53 @@ impl<'c> Activity<'c> {
     /// A trade reported after a delay, made at a time or after a pause.
     pub(super) fn trade_at(&mut self, milliseconds: u32, series: u32, price: u32, size: u32, delay: u32) {
         let form = self.chance.weighted(&[(5, 0), (2, 1), (2, 2)]);
+        self.trade_of(form, milliseconds, series, price, size, delay);
+    }
+
+    /// The same of this block form.
+    pub(super) fn trade_of(&mut self, form: u32, milliseconds: u32, series: u32, price: u32, size: u32, delay: u32) {
         let complex = self.chance.one_in(12) as u32;
         let initiator = if self.chance.percent(self.initiated) { self.away() } else { 0 };
         let report = self.time.saturating_add(milliseconds + delay);
+        let shown = self.shown[series as usize];
+        let outside = shown.iter().any(|&[bid, offer]| bid > price || (1..price).contains(&offer));
+        let block = form != 0 && size >= 500 && price as u64 * size as u64 >= 150_000 && outside;
         self.add(3, milliseconds, &[series, price, size, form, complex, initiator, delay]);
-        self.trades.push(Made { price, initiator, report, shown: self.shown[series as usize], asked: 0 });
+        self.trades.push(Made { price, initiator, report, shown, block, asked: 0, no_block: 0 });
+    }
+
+    /// Whether home may say of a Satisfaction Order that the trade was no block, were it the first to be cancelled.
+    pub(super) fn is_priced_as_a_block_that_was_none(&self, order: usize) -> bool {
+        let Asked { trade, price, .. } = self.asked[order];
+        price == self.trades[trade].price && !self.trades[trade].block
+    }
+
+    /// Whether an exchange shows a price.
+    pub(super) fn shows(&self, series: u32, exchange: u32) -> bool {
+        self.shown[series as usize][exchange as usize] != [0, 0]
+    }
+
+    /// Whether an order of this exchange for this trade was cancelled as no block.
+    pub(super) fn had_no_block(&self, trade: usize, from: u32) -> bool {
+        self.trades[trade].no_block >> from & 1 == 1
+    }
+
+    /// Whether one was and no other has come since.
+    pub(super) fn may_send_again(&self, trade: usize, from: u32) -> bool {
+        self.had_no_block(trade, from) && self.trades[trade].asked >> from & 1 == 0
+    }
+
+    /// Takes the order as cancelled as no block.
+    pub(super) fn let_send_again(&mut self, order: usize) {
+        let Asked { trade, from, .. } = self.asked[order];
+        self.asked[order].cancelled = true;
+        self.asked[order].no_block = Some(self.time);
+        self.trades[trade].asked &= !(1 << from);
+        self.trades[trade].no_block |= 1 << from;
+    }
+
+    pub(super) fn trade_price(&self, trade: usize) -> u32 {
+        self.trades[trade].price
     }
 
     pub(super) fn delay(&mut self) -> u32 {
@@ -396,16 +464,24 @@ impl<'c> Activity<'c> {
             }
         }
         if self.chance.one_in(2) {
+            self.send_again_from(first);
+        }
+        if self.chance.one_in(2) {
             self.cancel_some_from(first);
         }
     }
 
     /// Some away exchanges show bids above a price or offers below it; answers which.
     pub(super) fn quote_better(&mut self, series: u32, price: u32, held: Held) -> Vec<u32> {
-        let bids = self.chance.one_in(2);
         let mut senders = self.away_exchanges();
         self.chance.shuffle(&mut senders);
         senders.truncate(1 + self.chance.below(senders.len()));
+        self.quote_better_by(senders, series, price, held)
+    }
+
+    /// These do; answers them in another order.
+    pub(super) fn quote_better_by(&mut self, mut senders: Vec<u32>, series: u32, price: u32, held: Held) -> Vec<u32> {
+        let bids = self.chance.one_in(2);
         for &sender in &senders {
             let cents = self.chance.between(1, 4);
             let prices = if bids { [price + cents, 0] } else { [0, price - cents] };
@@ -439,6 +515,7 @@ impl<'c> Activity<'c> {
         for exchange in self.away_exchanges() {
             self.satisfaction(self.trades.len() - 1, exchange);
         }
+        self.send_again_from(first);
         self.cancel_some_from(first);
     }
 
@@ -472,16 +549,37 @@ impl<'c> Activity<'c> {
     /// A Satisfaction Order after so long, unless the exchange has sent one for the trade.
     pub(super) fn satisfaction_after(&mut self, milliseconds: u32, size: u32, trade: usize, from: u32) {
         let made = self.trades[trade];
-        if made.asked >> from & 1 == 1 {
+        let through = made.through(from);
+        let shift = self.chance.between(0, 2);
+        let by_chance = self.chance.weighted(&[(14, through), (3, made.price), (2, through + shift)]);
+        let price = if self.chance.percent(self.as_block) { made.price } else { by_chance };
+        self.satisfaction_at(milliseconds, price, size, trade, from);
+    }
+
+    /// The same with this price.
+    pub(super) fn satisfaction_at(&mut self, milliseconds: u32, price: u32, size: u32, trade: usize, from: u32) {
+        let Made { asked, initiator, .. } = self.trades[trade];
+        if asked >> from & 1 == 1 {
             return;
         }
-        let [bid, offer] = made.shown[from as usize];
-        let through = if bid > made.price || offer == 0 { bid } else { offer };
-        let shift = self.chance.between(0, 2);
-        let price = self.chance.weighted(&[(14, through), (3, made.price), (2, through + shift)]);
-        self.add(7, milliseconds, &[trade as u32, from, price.clamp(1, 1_000_000), size]);
+        let price = price.clamp(1, 1_000_000);
+        self.add(7, milliseconds, &[trade as u32, from, price, size]);
         self.trades[trade].asked |= 1 << from;
-        self.asked.push(Asked { from, received: self.time, initiator: made.initiator, cancelled: false });
+        let asked = Asked { trade, from, price, received: self.time, initiator, cancelled: false, no_block: None };
+        self.asked.push(asked);
+    }
+
+    /// A second Satisfaction Order, mostly at the price required, after so long.
+    pub(super) fn satisfaction_again(&mut self, milliseconds: u32, size: u32, trade: usize, from: u32) {
+        let made = self.trades[trade];
+        let through = made.through(from);
+        let price = self.chance.weighted(&[(9, through), (2, made.price), (1, through + 1)]);
+        self.satisfaction_at(milliseconds, price, size, trade, from);
+    }
+
+    /// When a trade was reported.
+    pub(super) fn report_of(&self, trade: usize) -> u32 {
+        self.trades[trade].report
     }
 
     /// An order with the price that the receiver shows, or one near it.
@@ -568,7 +666,9 @@ impl<'c> Activity<'c> {
         let milliseconds = self.until(sent_at.saturating_add(wait));
         let size = values::contracts(self.chance);
         self.trade_at(milliseconds, series, price, size, 0);
+        let first = self.asked.len();
         self.satisfaction(self.trades.len() - 1, away);
+        self.send_again_from(first);
     }
 
     /// One thing that happens on the market.
@@ -592,6 +692,10 @@ impl<'c> Activity<'c> {
             (3, |day| day.trade_after_an_order()),
             (5, |day| day.cancellation()),
             (1, |day| day.cancellations_near_close()),
+            (4, |day| day.no_block()),
+            (4, |day| day.send_again()),
+            (1, |day| day.all_send_again()),
+            (1, |day| day.block_or_none()),
         ]);
         happens(self);
     }

@@ -3,9 +3,10 @@
 
 use super::sheets::desk_after;
 use crate::claims::{Desk, Trade, reason};
-use crate::event::{Cancellation, HomeTrade, Satisfaction};
+use crate::event::{Cancellation, HomeTrade, NoBlock, Satisfaction};
 use crate::header::Header;
 use crate::journal::{Moment, Watcher, open, walk};
+use crate::market::Market;
 use crate::number::Reader;
 use crate::record::{Record, kind};
 use crate::sheet::{own_fills, sum_of_claims};
@@ -34,6 +35,7 @@ const WANTED: &str = "
     cancellation refused, trade without initiator|cancellation refused, another than the initiator
     cancellation refused, home named|cancellation refused, sender named
     cancellation refused, second after one in time|cancellation refused, second after a late one
+    cancellation refused, second after one as no block
     cancellation refused, exchange 0|cancellation refused, exchange above N|cancellation refused, past the day";
 
 const LARGER_BY_CANCELLED: &str = "trade above firm size of one cancelled alone, shared out";
@@ -58,6 +60,8 @@ struct Asked {
     initiator: Option<usize>,
     received: Moment,
     cancelled: Option<Moment>,
+    /// Cancelled, but as priced for a block that was none.
+    no_block: bool,
 }
 
 #[derive(Default)]
@@ -72,17 +76,21 @@ impl Watcher for Orders {
         self.time += record.milliseconds;
     }
 
-    fn home_trade(&mut self, _at: Moment, trade: &HomeTrade) {
+    fn home_trade(&mut self, _at: Moment, _market: &Market, trade: &HomeTrade) {
         self.initiators.push(trade.initiator);
     }
 
     fn satisfaction_order(&mut self, at: Moment, order: &Satisfaction) {
         let (from, initiator) = (order.from, self.initiators[order.trade]);
-        self.asked.push(Asked { from, initiator, received: at, cancelled: None });
+        self.asked.push(Asked { from, initiator, received: at, cancelled: None, no_block: false });
     }
 
     fn cancellation(&mut self, at: Moment, cancellation: &Cancellation) {
         self.asked[cancellation.order].cancelled = Some(at);
+    }
+
+    fn no_block(&mut self, _at: Moment, no_block: &NoBlock) {
+        self.asked[no_block.order].no_block = true;
     }
 }
 
@@ -273,7 +281,7 @@ impl<'h> Cancelled<'h> {
 }
 
 /// What is so.
-fn so(all: &[(bool, &str)]) -> Vec<String> {
+pub fn so(all: &[(bool, &str)]) -> Vec<String> {
     all.iter().filter(|(is_so, _)| *is_so).map(|(_, what)| what.to_string()).collect()
 }
 
@@ -295,6 +303,9 @@ pub fn reached_by_refusal(journal: &[u8], no: u32, place: usize) -> Option<Strin
         _ => match orders.asked.get(order as usize) {
             None if orders.asked.is_empty() => Some("no order so far"),
             None => Some("unknown order"),
+            Some(Asked { no_block: true, initiator, .. }) => {
+                (*initiator == Some(named as usize - 1)).then_some("second after one as no block")
+            }
             Some(Asked { cancelled: None, initiator, from, .. }) => not_named(&header, *initiator, *from, named),
             Some(Asked { initiator, .. }) if *initiator != Some(named as usize - 1) => None,
             Some(_) => match Cancelled::of(&header, &journal[..place])?.in_time(order as usize)? {

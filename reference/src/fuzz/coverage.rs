@@ -1,12 +1,14 @@
 //! What the questions of a run have reached, by the right answers.
 
 use super::cancelled::{self, Cancelled};
+use super::sent_again::{self, SentAgain};
 use super::sheets::{accepted_header, desk_after};
 use crate::ask::{Answer, Question, op, word_at};
 use crate::claims::{Desk, Line, Trade, reason};
 use crate::event::{HomeTrade, Order, Satisfaction};
 use crate::header::Header;
 use crate::journal::{Journal, Moment, Watcher, open, walk};
+use crate::market::Market;
 use crate::record::{Record, kind};
 use crate::sheet;
 use crate::time::Time;
@@ -35,6 +37,10 @@ const WANTED: &str = "
     cancellation read alone, field out of range
     cancellation written alone|cancellation written alone, more than its own given
     cancellation written alone, past the day|cancellation written alone, field out of range
+    no-block record read alone|no-block record read alone, more than its own given
+    no-block record read alone, unreadable|no-block record read alone, past the day
+    no-block record written alone|no-block record written alone, more than its own given
+    no-block record written alone, past the day|no-block record written alone, field out of range
     claim at the close limited to ten|claim at the close of ten as it is|claim at the close below ten
     claim above ten before the closing record|claim above ten before the closing record, asked after it
     trade at the close, limited claims shared out|trade at the close, limited claims all due
@@ -47,11 +53,12 @@ fn wanted() -> impl Iterator<Item = String> {
         numbers.into_iter().map(move |number| format!("{what} {number}"))
     };
     numbered("answer", &[0..=9, 20..=22, 24..=26, 98..=99])
-        .chain(numbered("F reason", &[0..=0, 2..=14]))
+        .chain(numbered("F reason", &[0..=0, 2..=15]))
         .chain(numbered("S", &[0..=2]))
         .chain(numbered("T through", &[0..=7]))
         .chain(WANTED.split(['|', '\n']).map(|what| what.trim().to_string()))
         .chain(cancelled::wanted())
+        .chain(sent_again::wanted())
         .filter(|what| !what.is_empty())
 }
 
@@ -72,7 +79,7 @@ impl Watcher for Closing {
         self.records += 1;
     }
 
-    fn home_trade(&mut self, at: Moment, _trade: &HomeTrade) {
+    fn home_trade(&mut self, at: Moment, _market: &Market, _trade: &HomeTrade) {
         self.with_trade_after |= self.begun == Some(at.time);
         self.last_trade = Some(at.time);
     }
@@ -119,6 +126,12 @@ impl Coverage {
         *self.0.entry(what.into()).or_default() += 1;
     }
 
+    fn count_all(&mut self, all: impl IntoIterator<Item = String>) {
+        for what in all {
+            self.count(what);
+        }
+    }
+
     pub fn note(&mut self, question: &Question, answer: &Answer) {
         self.count(format!("answer {}", answer.no));
         if (op::JOURNAL..=op::TOTALS).contains(&question.op) {
@@ -154,22 +167,26 @@ impl Coverage {
         }
     }
 
-    /// A journal refused at its closing record or at a cancellation.
+    /// A journal refused at its closing record, at a cancellation or at a Satisfaction Order.
     fn note_refused(&mut self, question: &Question, answer: &Answer) {
         let place = answer.place as usize;
         match (question.a.get(place).map(|&byte| byte as u32), answer.no) {
             (Some(kind::CLOSING_WINDOW), 5) => self.count("closing record refused, past the day"),
             (Some(kind::CLOSING_WINDOW), 7) => self.count("closing record refused, a second"),
             (Some(kind::CANCELLATION), 5 | 7) => {
-                if let Some(what) = cancelled::reached_by_refusal(&question.a, answer.no, place) {
-                    self.count(what);
-                }
+                self.count_all(cancelled::reached_by_refusal(&question.a, answer.no, place));
+            }
+            (Some(kind::NO_BLOCK), 5 | 7) => {
+                self.count_all(sent_again::reached_by_no_block(&question.a, answer.no, place));
+            }
+            (Some(kind::SATISFACTION_ORDER), 7 | 8) => {
+                self.count_all(sent_again::reached_by_claim(&question.a, answer.no, place));
             }
             _ => {}
         }
     }
 
-    /// A closing record or a cancellation alone, read or written.
+    /// A closing record or a cancellation of either kind alone, read or written.
     fn note_record_alone(&mut self, question: &Question, answer: &Answer) {
         if answer.no == 98 {
             return;
@@ -181,6 +198,7 @@ impl Coverage {
         let (kind, own) = match numbers.first() {
             Some(&kind::CLOSING_WINDOW) => ("closing record", 2),
             Some(&kind::CANCELLATION) => ("cancellation", 4),
+            Some(&kind::NO_BLOCK) => ("no-block record", 3),
             _ => return,
         };
         let past_the_day = || words[0] as u64 + numbers[1] as u64 > Time::LAST as u64;
@@ -200,15 +218,17 @@ impl Coverage {
         self.count(format!("{kind} {what} alone{how}"));
     }
 
-    /// What a sheet makes of the cancellations.
+    /// What a sheet makes of the cancellations, and of what is sent again.
     fn note_sheet(&mut self, question: &Question, answer: &Answer) {
         let Some(header) = accepted_header(&question.a) else {
             return;
         };
+        let place = answer.place as usize;
         if let Some(cancelled) = Cancelled::of(&header, &question.a) {
-            for what in cancelled.reached_by_sheet(&question.b, answer.no, answer.place as usize) {
-                self.count(what);
-            }
+            self.count_all(cancelled.reached_by_sheet(&question.b, answer.no, place));
+        }
+        if let Some(sent_again) = SentAgain::of(&header, &question.a) {
+            self.count_all(sent_again.reached_by_sheet(&question.b, answer.no, place));
         }
     }
 
@@ -228,9 +248,8 @@ impl Coverage {
         for (_, limit) in limits.into_iter().filter(|(reached, _)| *reached) {
             self.count(limit);
         }
-        for what in Cancelled::of(header, journal).iter().flat_map(Cancelled::reached) {
-            self.count(what);
-        }
+        self.count_all(Cancelled::of(header, journal).iter().flat_map(Cancelled::reached));
+        self.count_all(SentAgain::of(header, journal).iter().flat_map(SentAgain::reached));
         self.note_trades(&desk);
         for trade in &desk.trades {
             self.note_limit(&desk, trade, &closing);

@@ -1,13 +1,13 @@
 //! Records with one fault, and bytes damaged anywhere.
 
-use super::activity::{Activity, put_number};
+use super::activity::{Activity, Asked, put_number};
 use super::chance::Chance;
 use super::values;
 use crate::record::kind;
 
 /// Adds the record with one thing wrong, or what is wrong only beside the records before it.
 pub fn add_faulty(day: &mut Activity, kind: u32, milliseconds: u32, fields: &[u32]) {
-    match day.chance.below(11) {
+    match day.chance.below(13) {
         0 => {
             let unknown = values::unknown_kind(day.chance);
             day.add_as_is(unknown, milliseconds, fields);
@@ -21,6 +21,7 @@ pub fn add_faulty(day: &mut Activity, kind: u32, milliseconds: u32, fields: &[u3
         4 => add_unknown_or_twice(day, milliseconds),
         5 => add_faulty_closing(day, milliseconds),
         6 | 7 => add_faulty_cancellation(day),
+        8 | 9 => add_faulty_no_block(day),
         _ => {
             let mut fields = fields.to_vec();
             let field = day.chance.below(fields.len());
@@ -121,6 +122,106 @@ fn not_to_cancel(day: &mut Activity, order: usize, initiator: u32) -> (u32, u32)
         1 | 2 => (closed as u32, day.asked[closed].initiator.max(1)),
         3 => (day.chance.pick(&[unknown, closed as u32]), another),
         _ => (order as u32, another),
+    }
+}
+
+/// A cancellation as no block with something wrong, or what an earlier one or its lack makes wrong; what leads up to it
+/// goes well.
+pub fn add_faulty_no_block(day: &mut Activity) {
+    day.until_fault = None;
+    let initiated = std::mem::replace(&mut day.initiated, 100);
+    if day.chance.one_in(2) {
+        day.move_near_close();
+    }
+    let order = day.one_as_block();
+    day.initiated = initiated;
+    let milliseconds = day.chance.pick(&[0, 0, 1, 60_001, 180_000]);
+    match day.chance.below(20) {
+        0..=6 => not_as_no_block(day, order),
+        7..=9 => after_a_cancellation(day, order),
+        10..=15 => after_no_block(day, order),
+        16 | 17 => {
+            let beyond = around_the_days_end(day);
+            day.add_as_is(kind::NO_BLOCK, beyond, &[order as u32]);
+        }
+        18 => add_with_a_long_number(day, kind::NO_BLOCK, milliseconds, &[order as u32]),
+        _ => {
+            let next = day.chance.between(0, 12);
+            day.add_as_is(kind::NO_BLOCK, milliseconds, &[order as u32, next]);
+            let cut_off = day.bytes.len() - day.chance.below(4);
+            day.bytes.truncate(cut_off);
+        }
+    }
+}
+
+/// "An unknown claim, a block, a price that is not the trade's, more than 180,000 ms after the claim", or the order
+/// sent again though it was not cancelled.
+fn not_as_no_block(day: &mut Activity, order: usize) {
+    let count = day.satisfactions() as u32;
+    let Asked { trade, from, .. } = day.asked[order];
+    let price = day.trade_price(trade) + 1;
+    match day.chance.below(9) {
+        0 => {
+            let unknown = day.chance.pick(&[count, count, count + 1, 511, 512, 268_435_455]);
+            day.add_as_is(kind::NO_BLOCK, 0, &[unknown]);
+        }
+        1 => day.add_as_is(kind::SATISFACTION_ORDER, 0, &[trade as u32, from, price, 30]),
+        2 | 3 => {
+            let milliseconds = day.chance.pick(&[180_000, 180_001, 180_001, 180_001, 180_002, 400_000]);
+            day.add_as_is(kind::NO_BLOCK, milliseconds, &[order as u32]);
+        }
+        4 | 5 => {
+            for other in day.away_exchanges() {
+                day.satisfaction_at(0, price, 5, trade, other);
+            }
+            let last = day.satisfactions() as u32 - 1;
+            day.add_as_is(kind::NO_BLOCK, 0, &[last]);
+        }
+        _ => {
+            let order = day.one_around_a_block();
+            day.add_as_is(kind::NO_BLOCK, 0, &[order as u32]);
+        }
+    }
+}
+
+/// "A claim already cancelled by kind 8": it stays the one of its exchange and trade.
+fn after_a_cancellation(day: &mut Activity, order: usize) {
+    let Asked { trade, from, .. } = day.asked[order];
+    let wait = day.chance.pick(&[0, 1, 60_001, 60_001, 180_000, 180_001]);
+    day.cancel_at(order, day.time.saturating_add(wait));
+    if day.chance.one_in(2) {
+        day.add_as_is(kind::NO_BLOCK, 0, &[order as u32]);
+    } else {
+        let price = day.trade_price(trade) + 1;
+        day.add_as_is(kind::SATISFACTION_ORDER, 0, &[trade as u32, from, price, 30]);
+    }
+}
+
+/// A second cancellation of the order, of either kind; the order sent again cancelled as no block, or sent a third
+/// time.
+fn after_no_block(day: &mut Activity, order: usize) {
+    let Asked { trade, from, initiator, .. } = day.asked[order];
+    let later = day.chance.pick(&[0, 0, 1, 100_000]);
+    day.no_block_at(order, day.time.saturating_add(later));
+    let milliseconds = day.chance.pick(&[0, 0, 1, 60_001]);
+    match day.chance.below(5) {
+        0 => return day.add_as_is(kind::NO_BLOCK, milliseconds, &[order as u32]),
+        1 => return day.add_as_is(kind::CANCELLATION, milliseconds, &[order as u32, initiator]),
+        _ => {}
+    }
+    let price = day.trade_price(trade) + day.chance.between(0, 1);
+    let again = day.chance.pick(&[0, 180_000, 180_001]);
+    let again = day.until(day.time.saturating_add(again));
+    day.satisfaction_at(again, price, 30, trade, from);
+    let second = day.satisfactions() - 1;
+    let by_kind_8 = day.chance.one_in(2);
+    if by_kind_8 {
+        day.cancel_at(second, day.time);
+    }
+    match day.chance.below(3) {
+        0 => day.add_as_is(kind::NO_BLOCK, milliseconds, &[second as u32]),
+        1 => day.add_as_is(kind::NO_BLOCK, milliseconds, &[order as u32]),
+        _ => day.add_as_is(kind::SATISFACTION_ORDER, milliseconds, &[trade as u32, from, price, 30]),
     }
 }
 

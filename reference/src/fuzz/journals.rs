@@ -11,6 +11,7 @@ enum Day {
     Usual,
     WithFault,
     WithFaultyCancellation,
+    WithFaultyNoBlock,
     Damaged,
     OnlyHeader,
     Noise,
@@ -22,7 +23,8 @@ enum Day {
     TooLong,
 }
 
-/// The closing record comes at any point of the day, or never; on some days most trades come from other exchanges.
+/// The closing record comes at any point of the day, or never; on some days most trades come from other exchanges, on
+/// some many ask as if they were blocks.
 fn open<'c>(chance: &'c mut Chance, header: &[u32; Header::NUMBERS]) -> Activity<'c> {
     let mut day = Activity::open(chance, header);
     if day.chance.percent(60) {
@@ -31,6 +33,7 @@ fn open<'c>(chance: &'c mut Chance, header: &[u32; Header::NUMBERS]) -> Activity
         day.close_after(records);
     }
     day.initiated = day.chance.pick(&[25, 80]);
+    day.as_block = day.chance.pick(&[0, 0, 50]);
     day
 }
 
@@ -45,11 +48,19 @@ pub fn journal_with_claims(chance: &mut Chance) -> Vec<u8> {
     day.initiated = 60;
     for _ in 0..trades {
         day.something();
-        match day.chance.below(12) {
+        match day.chance.below(17) {
             0..=4 => day.trade_around_ten(),
             5..=8 => day.shared_trade(),
             9 | 10 => day.shared_but_for_one(),
-            _ => day.cancellations_near_close(),
+            11 => day.cancellations_near_close(),
+            12 => day.send_again_near_close(),
+            _ => {
+                if day.chance.one_in(3) {
+                    let records = day.chance.below(40);
+                    day.close_after(records);
+                }
+                day.all_send_again();
+            }
         }
     }
     day.bytes
@@ -59,13 +70,14 @@ pub fn journal(chance: &mut Chance) -> Vec<u8> {
     let day = chance.weighted(&[
         (600, Day::Usual),
         (180, Day::WithFault),
-        (60, Day::WithFaultyCancellation),
+        (70, Day::WithFaultyCancellation),
+        (110, Day::WithFaultyNoBlock),
         (110, Day::Damaged),
         (60, Day::OnlyHeader),
         (20, Day::Noise),
         (6, Day::ManyTrades),
         (6, Day::ManySent),
-        (12, Day::ManySatisfactions),
+        (20, Day::ManySatisfactions),
         (4, Day::ManyRecords),
         (12, Day::Full),
         (6, Day::TooLong),
@@ -76,7 +88,8 @@ pub fn journal(chance: &mut Chance) -> Vec<u8> {
             let until = chance.below(30);
             usual(chance, Some(until))
         }
-        Day::WithFaultyCancellation => with_faulty_cancellation(chance),
+        Day::WithFaultyCancellation => with_fault_at_the_end(chance, faults::add_faulty_cancellation),
+        Day::WithFaultyNoBlock => with_fault_at_the_end(chance, faults::add_faulty_no_block),
         Day::Damaged => damaged(chance),
         Day::OnlyHeader => only_header(chance),
         Day::Noise => (0..chance.below(60)).map(|_| chance.byte()).collect(),
@@ -103,9 +116,10 @@ fn usual(chance: &mut Chance, until_fault: Option<usize>) -> Vec<u8> {
         day.move_on();
     }
     for _ in 0..steps {
-        match day.chance.below(24) {
+        match day.chance.below(25) {
             0 | 1 => day.trade_around_ten(),
             2 => day.cancellations_near_close(),
+            3 => day.send_again_near_close(),
             _ => day.something(),
         }
     }
@@ -113,14 +127,14 @@ fn usual(chance: &mut Chance, until_fault: Option<usize>) -> Vec<u8> {
 }
 
 /// Some records, then a cancellation with something wrong.
-fn with_faulty_cancellation(chance: &mut Chance) -> Vec<u8> {
+fn with_fault_at_the_end(chance: &mut Chance, add_faulty: fn(&mut Activity)) -> Vec<u8> {
     let header = values::header(chance);
     let steps = chance.below(15);
     let mut day = open(chance, &header);
     for _ in 0..steps {
         day.something();
     }
-    faults::add_faulty_cancellation(&mut day);
+    add_faulty(&mut day);
     day.bytes
 }
 
@@ -145,7 +159,8 @@ fn only_header(chance: &mut Chance) -> Vec<u8> {
     if chance.one_in(2) {
         let records: &[&[u8]] = &[&[2, 0, 1, 0], &[9, 0], &[9, 0, 2, 0, 1, 0], &[9, 0, 9, 0], &[9, 0, 9], &[9]];
         let cancellations: &[&[u8]] = &[&[8, 0, 0, 1], &[8, 1, 0, 2], &[8, 0, 9, 1], &[8, 0, 0, 0], &[8, 0, 0], &[8]];
-        let records = chance.pick(&[records, cancellations]);
+        let no_block: &[&[u8]] = &[&[11, 0, 0], &[11, 1, 0], &[11, 0, 9], &[11, 0, 0x80, 0], &[11, 0], &[11]];
+        let records = chance.pick(&[records, cancellations, no_block]);
         bytes.extend(chance.pick(records));
     }
     bytes
@@ -166,7 +181,8 @@ fn many(chance: &mut Chance, most: usize, count: fn(&Activity) -> usize, add: fn
     day.bytes
 }
 
-/// Around 512 Satisfaction Orders, the last of them perhaps cancelled, and one more for a trade that there is not.
+/// Around 512 Satisfaction Orders, the last of them perhaps cancelled or a second one, and one more for a trade that
+/// there is not.
 fn many_satisfactions(chance: &mut Chance) -> Vec<u8> {
     let mut header = values::header(chance);
     header[0] = chance.between(1, 8);
@@ -177,14 +193,23 @@ fn many_satisfactions(chance: &mut Chance) -> Vec<u8> {
     let wanted = chance.pick(&[511, 512, 512, 513]);
     let mut day = open(chance, &header);
     day.initiated = 80;
-    while day.satisfactions() + 7 < wanted && day.trades() < 127 {
+    let cancelled = day.one_as_block();
+    day.no_block_at(cancelled, day.time);
+    while day.satisfactions() + 14 < wanted && day.trades() < 127 {
         day.shared_trade();
     }
-    for trade in (0..day.trades()).cycle().take(20 * 128) {
+    let by_second = day.chance.one_in(2);
+    for trade in (1..day.trades()).cycle().take(20 * 128) {
         let away = day.away();
-        if day.satisfactions() < wanted {
+        if day.satisfactions() + (by_second as usize) < wanted {
             day.satisfaction(trade, away);
         }
+    }
+    if by_second {
+        let (trade, away) = (day.asked[cancelled].trade, day.asked[cancelled].from);
+        day.satisfaction_again(0, 30, trade, away);
+    } else if let Some(&last) = day.open_to_no_block().last() {
+        day.no_block_at(last, day.time);
     }
     for _ in 0..2 {
         day.cancel_some_from(500);

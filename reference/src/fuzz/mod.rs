@@ -7,7 +7,9 @@ pub mod chance;
 mod coverage;
 mod faults;
 mod journals;
+mod no_block;
 mod questions;
+mod sent_again;
 mod sheets;
 mod values;
 

@@ -4,6 +4,7 @@ use super::activity::put_number;
 use super::cancelled::Cancelled;
 use super::chance::Chance;
 use super::faults;
+use super::sent_again::SentAgain;
 use crate::claims::{Desk, Trade, reason};
 use crate::header::Header;
 use crate::journal::{open, walk};
@@ -26,7 +27,10 @@ pub fn sheet(chance: &mut Chance, journal: &[u8]) -> Vec<u8> {
         draft.lines = lines_with_another_limit(desk_after(&header, journal), chance.one_in(3));
     }
     let mut misses = 65;
-    if let (true, Some(cancelled)) = (chance.one_in(2), Cancelled::of(&header, journal)) {
+    if let (true, Some(sent_again)) = (chance.one_in(2), SentAgain::of(&header, journal)) {
+        draft.take_sent_again_otherwise(chance, &sent_again);
+        misses = 10;
+    } else if let (true, Some(cancelled)) = (chance.percent(60), Cancelled::of(&header, journal)) {
         draft.take_cancellations_otherwise(chance, &cancelled);
         misses = 25;
     }
@@ -109,10 +113,41 @@ impl Draft<'_> {
         }
     }
 
+    /// As if what is sent again were judged as a first, or never late: all of it, its reason, its fill, or what that
+    /// leaves for the others. Or 15 stands for all that is sent again or for the firsts, or 14 for 15; the first is
+    /// filled in the second's place, or neither, or the first is given no reason; or what is left is shared otherwise.
+    fn take_sent_again_otherwise(&mut self, chance: &mut Chance, sent_again: &SentAgain) {
+        let otherwise = own_lines(if chance.one_in(2) { &sent_again.as_first } else { &sent_again.without_end });
+        let how = chance.pick(&[0, 1, 2, 2, 3, 3, 3, 4, 5, 6, 7, 8, 9, 10]);
+        for (order, other) in otherwise.into_iter().enumerate() {
+            let late = self.desk.lines[order].reason == reason::SENT_AGAIN_LATE;
+            match (how, sent_again.first_of(order)) {
+                (0, _) => self.lines[order] = other,
+                (1, Some(_)) => self.lines[order][0] = other[0],
+                (2, _) => self.set_fill(order, other[1]),
+                (3, _) if !late => self.set_fill(order, other[1]),
+                (4, Some(_)) => self.lines[order][0] = reason::SENT_AGAIN_LATE as u32,
+                (5, Some(first)) => {
+                    let filled = self.lines[order][1].min(self.desk.lines[first].size);
+                    self.set_fill(first, filled);
+                    self.set_fill(order, 0);
+                }
+                (6, Some(first)) => self.lines[first][0] = reason::NONE as u32,
+                (7, Some(first)) => self.lines[first][0] = reason::SENT_AGAIN_LATE as u32,
+                (8, Some(_)) => self.set_fill(order, 0),
+                (9, _) if late => self.lines[order][0] = reason::INITIATOR_NAMED as u32,
+                _ => {}
+            }
+        }
+        if how == 10 {
+            self.share_otherwise(chance);
+        }
+    }
+
     /// Moves single contracts between lines of a trade that stand level, so that the sheet stays good.
     fn break_ties_otherwise(&mut self, chance: &mut Chance) {
         for trade in &self.desk.trades {
-            for _ in 0..3 {
+            for _ in 0..6 {
                 if let Some((from, to)) = self.two_lines(chance, trade) {
                     if self.stand_level(from, to) {
                         self.move_contracts(from, to, 1);
@@ -164,7 +199,7 @@ impl Draft<'_> {
             1 => self.lines[line][1] = chance.pick(&[filled + 1, filled.saturating_sub(1), 268_435_455]),
             2 => {
                 self.lines[line][0] =
-                    chance.pick(&[(reason + 1) % 15, (reason + 14) % 15, 0, 1, 14, reason + 256, reason + 65_536])
+                    chance.pick(&[(reason + 1) % 16, (reason + 15) % 16, 0, 1, 14, 15, reason + 256, reason + 65_536])
             }
             3 => self.set_fill(line, (claim + 1).min(self.desk.lines[line].size)),
             4 => self.set_fill(line, filled.saturating_sub(1)),

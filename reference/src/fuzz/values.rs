@@ -137,12 +137,13 @@ fn usual_fields(chance: &mut Chance, kind: u32, header: &[u32]) -> [u32; Record:
         5 => [naming(chance), chance.pick(&[0, 1, size, 100_000]), 0, 0, 0, 0, 0, 0],
         7 => [naming(chance), away, price, size, 0, 0, 0, 0],
         8 => [naming(chance), chance.between(1, exchanges), 0, 0, 0, 0, 0, 0],
+        11 => [naming(chance), 0, 0, 0, 0, 0, 0, 0],
         _ => [0; Record::MOST_FIELDS],
     }
 }
 
 pub fn unknown_kind(chance: &mut Chance) -> u32 {
-    chance.pick(&[0, 10, 11, 12, 127, 128, 16_384, 268_435_455])
+    chance.pick(&[0, 10, 10, 12, 13, 127, 128, 16_384, 268_435_455])
 }
 
 fn naming(chance: &mut Chance) -> u32 {
@@ -160,7 +161,7 @@ fn quote_fields(chance: &mut Chance, exchanges: u32) -> [u32; Record::MOST_FIELD
 /// A record, one number of which may lie at the end of its range, outside, or beyond what can be stored.
 pub fn record_or_near(chance: &mut Chance, header: &[u32; Header::NUMBERS]) -> Record {
     let exchanges = header[1].clamp(2, 8);
-    let kind = chance.pick(&[1, 2, 3, 4, 5, 6, 7, 8, 8, 8, 9]);
+    let kind = chance.pick(&[1, 2, 3, 4, 5, 6, 7, 8, 8, 8, 9, 9, 11, 11, 11]);
     let fields = usual_fields(chance, kind, &[header[0].min(8), exchanges]);
     let milliseconds = chance.pick(&[0, 0, 1, 127, 128, 1_000, 20_001, 16_384, 2_097_152, 86_399_999]);
     let mut record = Record { kind, milliseconds, fields };
@@ -179,7 +180,8 @@ pub fn record_or_near(chance: &mut Chance, header: &[u32; Header::NUMBERS]) -> R
 
 /// What each field of each kind means: Exchange, Series, Price, Contracts, Three (0 to 2), Flag, Delay, One or two,
 /// Naming.
-const MEANT: [&[u8]; 9] = [b"", b"ESPCCPCC", b"ET", b"SPCTFED", b"OESOPC", b"NC", b"OESOPC", b"NEPC", b"NE"];
+const MEANT: [&[u8]; 12] =
+    [b"", b"ESPCCPCC", b"ET", b"SPCTFED", b"OESOPC", b"NC", b"OESOPC", b"NEPC", b"NE", b"", b"", b"N"];
 
 /// A value at or just beyond an end of the range of this field, or one that can't be stored.
 pub fn near_an_end(chance: &mut Chance, kind: u32, field: usize, home: u32, exchanges: u32) -> u32 {
@@ -196,6 +198,7 @@ pub fn near_an_end(chance: &mut Chance, kind: u32, field: usize, home: u32, exch
         Some(b'F') => chance.pick(&[0, 1, 2]),
         Some(b'D') => chance.pick(&[0, 600_000, 600_001]),
         Some(b'O') => chance.pick(&[0, 1, 2, 3]),
+        Some(b'N') if chance.one_in(3) => chance.pick(&[268_435_455, 268_435_456]),
         _ => naming(chance),
     }
 }

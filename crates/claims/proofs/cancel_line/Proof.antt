@@ -38,11 +38,11 @@ element-copy-out-index c = search (cancel-laws, needs)
 index-requires : tie.Need-index-requires
 index-requires c κs = search (cancel-laws, needs)
 
-add-sum : tie.Need-add-sum
-add-sum c = search (cancel-laws, needs)
-
 mul-sum : tie.Need-mul-sum
 mul-sum c = search (cancel-laws, needs)
+
+add-sum : tie.Need-add-sum
+add-sum c = search (cancel-laws, needs)
 
 add-sum-2 : tie.Need-add-sum-2
 add-sum-2 c = search (cancel-laws, needs)
@@ -123,8 +123,8 @@ cancel-line-spec =
     mul-index
     element-copy-out-index
     index-requires
-    add-sum
     mul-sum
+    add-sum
     add-sum-2
     mul-left
     element-copy-out-left

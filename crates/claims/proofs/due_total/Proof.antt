@@ -6,11 +6,11 @@ use Rattle.claims.proofs.due_total.Reads as reads
 use Rattle.claims.proofs.due_total.Lts as lts
 use Rattle.rows.proofs.lesser.Reads as lesser-reads
 
-add-claims : tie.Need-add-claims
-add-claims c = search (due-laws, needs)
-
 mul-claims : tie.Need-mul-claims
 mul-claims c = search (due-laws, needs)
+
+add-claims : tie.Need-add-claims
+add-claims c = search (due-laws, needs)
 
 add-claims-2 : tie.Need-add-claims-2
 add-claims-2 c = search (due-laws, needs)
@@ -58,8 +58,8 @@ pub due-total-spec : {M : Type 1} → statement M
 due-total-spec =
     tie.close
     (tie.spec
-    add-claims
     mul-claims
+    add-claims
     add-claims-2
     mul-claims-2
     element-copy-out-claims

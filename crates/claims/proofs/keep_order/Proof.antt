@@ -1,4 +1,5 @@
 use Rattle.claims.proofs.Lines.{line-laws, order-fileable}
+use mathlib.Core.Path.{refl}
 use borrow.Author.Needs.{needs}
 use Rattle.claims.proofs.keep_order.Statement.{statement}
 use Rattle.claims.proofs.keep_order.Tie as tie
@@ -24,6 +25,21 @@ index-requires-2 c κs = search (line-laws, needs)
 
 sub-y : tie.Need-sub-y
 sub-y c = search (line-laws, needs)
+
+mul-again : tie.Need-mul-again
+mul-again c = search (line-laws, needs)
+
+add-again : tie.Need-add-again
+add-again c = search (line-laws, needs)
+
+add-again-2 : tie.Need-add-again-2
+add-again-2 c = search (line-laws, needs)
+
+mul-again-2 : tie.Need-mul-again-2
+mul-again-2 c = search (line-laws, needs)
+
+element-copy-out-again : tie.Need-element-copy-out-again
+element-copy-out-again c = search (line-laws, needs)
 
 array-read-facts-at : tie.Need-array-read-facts-at
 array-read-facts-at c = search (line-laws, needs)
@@ -64,26 +80,26 @@ element-copy-out-claim-of c = search (line-laws, needs)
 claim-of-requires : tie.Need-claim-of-requires
 claim-of-requires c κs = search (line-laws, needs)
 
-array-read-t20 : tie.Need-array-read-t20
-array-read-t20 c = search (line-laws, needs)
+array-read-t21 : tie.Need-array-read-t21
+array-read-t21 c = search (line-laws, needs)
 
-array-read-t34 : tie.Need-array-read-t34
-array-read-t34 c = search (line-laws, needs)
+array-read-t38 : tie.Need-array-read-t38
+array-read-t38 c = search (line-laws, needs)
 
-array-read-t41 : tie.Need-array-read-t41
-array-read-t41 c = search (line-laws, needs)
+array-read-t45 : tie.Need-array-read-t45
+array-read-t45 c = search (line-laws, needs)
 
-array-read-t44 : tie.Need-array-read-t44
-array-read-t44 c = search (line-laws, needs)
+array-read-t48 : tie.Need-array-read-t48
+array-read-t48 c = search (line-laws, needs)
 
 file-line-requires : tie.Need-file-line-requires
 file-line-requires c κs =
     let judged = c .before in
     let reasoned = judged .before .before .before in
-    let sender = reasoned .before .before in
+    let sender = reasoned .before .before .before in
     let given = sender .before .before .before .pre in
     order-fileable _ _ _ _ _ _ _ _ _ (given .0 .0) (given .1 .0) (given .1 .1 .0) (given .0 .1) (given .1 .1 .1)
-    _ (sender .before .index .ensures) _ (sender .index2 .ensures)
+    _ (sender .before .index .ensures) _ (sender .index2 .ensures) _ refl
     _ (reasoned .before .facts-at .ensures) _ (reasoned .reason-of .ensures) _ (judged .claim-of .ensures)
 
 returns : tie.Need-returns
@@ -98,6 +114,11 @@ keep-order-spec =
     array-read-index-2
     index-requires-2
     sub-y
+    mul-again
+    add-again
+    add-again-2
+    mul-again-2
+    element-copy-out-again
     array-read-facts-at
     facts-at-requires
     reason-of-requires
@@ -111,9 +132,9 @@ keep-order-spec =
     mul-claim-of-2
     element-copy-out-claim-of
     claim-of-requires
-    array-read-t20
-    array-read-t34
-    array-read-t41
-    array-read-t44
+    array-read-t21
+    array-read-t38
+    array-read-t45
+    array-read-t48
     file-line-requires
     returns)

@@ -6,11 +6,11 @@ use Rattle.claims.proofs.line_of.Reads as reads
 use Rattle.claims.proofs.line_of.Lts as lts
 use Rattle.rows.proofs.index.Reads as index-reads
 
-add-index : tie.Need-add-index
-add-index c = search (gather-laws, needs)
-
 mul-index : tie.Need-mul-index
 mul-index c = search (gather-laws, needs)
+
+add-index : tie.Need-add-index
+add-index c = search (gather-laws, needs)
 
 add-index-2 : tie.Need-add-index-2
 add-index-2 c = search (gather-laws, needs)
@@ -31,8 +31,8 @@ pub line-of-spec : {M : Type 1} → statement M
 line-of-spec =
     tie.close
     (tie.spec
-    add-index
     mul-index
+    add-index
     add-index-2
     mul-index-2
     element-copy-out-index

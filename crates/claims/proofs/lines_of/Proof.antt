@@ -6,11 +6,14 @@ use Rattle.claims.proofs.lines_of.Reads as reads
 use Rattle.claims.proofs.lines_of.Lts as lts
 use Rattle.rows.proofs.index.Reads as index-reads
 
+mul-index : tie.Need-mul-index
+mul-index c = search (gather-laws, needs)
+
 add-index : tie.Need-add-index
 add-index c = search (gather-laws, needs)
 
-mul-index : tie.Need-mul-index
-mul-index c = search (gather-laws, needs)
+add-index-2 : tie.Need-add-index-2
+add-index-2 c = search (gather-laws, needs)
 
 mul-index-2 : tie.Need-mul-index-2
 mul-index-2 c = search (gather-laws, needs)
@@ -27,4 +30,11 @@ returns c = search (gather-laws, needs)
 pub lines-of-spec : {M : Type 1} → statement M
 lines-of-spec =
     tie.close
-    (tie.spec add-index mul-index mul-index-2 element-copy-out-index index-requires returns)
+    (tie.spec
+    mul-index
+    add-index
+    add-index-2
+    mul-index-2
+    element-copy-out-index
+    index-requires
+    returns)

@@ -14,5 +14,8 @@ returns-2 c = search (word-laws, needs)
 returns-3 : tie.Need-returns-3
 returns-3 c = search (word-laws, needs)
 
+returns-4 : tie.Need-returns-4
+returns-4 c = search (word-laws, needs)
+
 pub named-spec : {M : Type 1} → statement M
-named-spec = tie.close (tie.spec returns returns-2 returns-3)
+named-spec = tie.close (tie.spec returns returns-2 returns-3 returns-4)

@@ -4,7 +4,7 @@ use Rattle.reasons.proofs.reason_of.Statement.{statement}
 use Rattle.reasons.proofs.reason_of.Tie as tie
 use Rattle.reasons.proofs.reason_of.Reads as reads
 use Rattle.reasons.proofs.reason_of.Lts as lts
-use Rattle.reasons.proofs.late_reason.Reads as late-reason-reads
+use Rattle.reasons.proofs.time_reason.Reads as time-reason-reads
 use Rattle.reasons.proofs.price_reason.Reads as price-reason-reads
 use Rattle.reasons.proofs.trade_reason.Reads as trade-reason-reads
 
@@ -14,8 +14,8 @@ trade-reason-requires c κs = search (whole-laws, needs)
 returns : tie.Need-returns
 returns c = search (whole-laws, needs)
 
-late-reason-requires : tie.Need-late-reason-requires
-late-reason-requires c κs = search (whole-laws, needs)
+time-reason-requires : tie.Need-time-reason-requires
+time-reason-requires c κs = search (whole-laws, needs)
 
 returns-2 : tie.Need-returns-2
 returns-2 c = search (whole-laws, needs)
@@ -32,7 +32,7 @@ reason-of-spec =
     (tie.spec
     trade-reason-requires
     returns
-    late-reason-requires
+    time-reason-requires
     returns-2
     price-reason-requires
     returns-3)

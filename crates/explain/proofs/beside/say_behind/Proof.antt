@@ -10,10 +10,16 @@ use Rattle.explain.proofs.beside.say_below.Reads as say-below-reads
 use Rattle.explain.proofs.beside.say_filled.Reads as say-filled-reads
 
 abbrev Inv-loop : tie.InvT-loop
-Inv-loop lines m claim customers fill k i₀ i = Unit {0}
+Inv-loop lines m claim customers fill k part i₀ i = Unit {0}
 
 abbrev μ-loop : tie.MeasureT-loop
-μ-loop lines m claim customers fill k i₀ i = k - i
+μ-loop lines m claim customers fill k part i₀ i = k - i
+
+mul-part : tie.Need-mul-part Inv-loop μ-loop
+mul-part c = search (clerk-laws, needs)
+
+add-part : tie.Need-add-part Inv-loop μ-loop
+add-part c = search (clerk-laws, needs)
 
 loop-holds : tie.Need-loop-holds Inv-loop μ-loop
 loop-holds c = search (clerk-laws, needs)
@@ -27,23 +33,17 @@ add-say-filled c = search (clerk-laws, needs)
 mul-say-filled : tie.Need-mul-say-filled Inv-loop μ-loop
 mul-say-filled c = search (clerk-laws, needs)
 
-add-say-filled-2 : tie.Need-add-say-filled-2 Inv-loop μ-loop
-add-say-filled-2 c = search (clerk-laws, needs)
+element-copy-out-say-filled : tie.Need-element-copy-out-say-filled Inv-loop μ-loop
+element-copy-out-say-filled c = search (clerk-laws, needs)
 
 mul-say-filled-2 : tie.Need-mul-say-filled-2 Inv-loop μ-loop
 mul-say-filled-2 c = search (clerk-laws, needs)
 
-element-copy-out-say-filled : tie.Need-element-copy-out-say-filled Inv-loop μ-loop
-element-copy-out-say-filled c = search (clerk-laws, needs)
-
-mul-say-filled-3 : tie.Need-mul-say-filled-3 Inv-loop μ-loop
-mul-say-filled-3 c = search (clerk-laws, needs)
-
 element-copy-out-say-filled-2 : tie.Need-element-copy-out-say-filled-2 Inv-loop μ-loop
 element-copy-out-say-filled-2 c = search (clerk-laws, needs)
 
-mul-say-filled-4 : tie.Need-mul-say-filled-4 Inv-loop μ-loop
-mul-say-filled-4 c = search (clerk-laws, needs)
+mul-say-filled-3 : tie.Need-mul-say-filled-3 Inv-loop μ-loop
+mul-say-filled-3 c = search (clerk-laws, needs)
 
 element-copy-out-say-filled-3 : tie.Need-element-copy-out-say-filled-3 Inv-loop μ-loop
 element-copy-out-say-filled-3 c = search (clerk-laws, needs)
@@ -60,29 +60,23 @@ element-copy-out-say-below c = search (clerk-laws, needs)
 say-below-requires : tie.Need-say-below-requires Inv-loop μ-loop
 say-below-requires c κs = search (clerk-laws, needs)
 
-add-say-filled-3 : tie.Need-add-say-filled-3 Inv-loop μ-loop
-add-say-filled-3 c = search (clerk-laws, needs)
+add-say-filled-2 : tie.Need-add-say-filled-2 Inv-loop μ-loop
+add-say-filled-2 c = search (clerk-laws, needs)
 
-mul-say-filled-5 : tie.Need-mul-say-filled-5 Inv-loop μ-loop
-mul-say-filled-5 c = search (clerk-laws, needs)
-
-add-say-filled-4 : tie.Need-add-say-filled-4 Inv-loop μ-loop
-add-say-filled-4 c = search (clerk-laws, needs)
-
-mul-say-filled-6 : tie.Need-mul-say-filled-6 Inv-loop μ-loop
-mul-say-filled-6 c = search (clerk-laws, needs)
+mul-say-filled-4 : tie.Need-mul-say-filled-4 Inv-loop μ-loop
+mul-say-filled-4 c = search (clerk-laws, needs)
 
 element-copy-out-say-filled-4 : tie.Need-element-copy-out-say-filled-4 Inv-loop μ-loop
 element-copy-out-say-filled-4 c = search (clerk-laws, needs)
 
-mul-say-filled-7 : tie.Need-mul-say-filled-7 Inv-loop μ-loop
-mul-say-filled-7 c = search (clerk-laws, needs)
+mul-say-filled-5 : tie.Need-mul-say-filled-5 Inv-loop μ-loop
+mul-say-filled-5 c = search (clerk-laws, needs)
 
 element-copy-out-say-filled-5 : tie.Need-element-copy-out-say-filled-5 Inv-loop μ-loop
 element-copy-out-say-filled-5 c = search (clerk-laws, needs)
 
-mul-say-filled-8 : tie.Need-mul-say-filled-8 Inv-loop μ-loop
-mul-say-filled-8 c = search (clerk-laws, needs)
+mul-say-filled-6 : tie.Need-mul-say-filled-6 Inv-loop μ-loop
+mul-say-filled-6 c = search (clerk-laws, needs)
 
 element-copy-out-say-filled-6 : tie.Need-element-copy-out-say-filled-6 Inv-loop μ-loop
 element-copy-out-say-filled-6 c = search (clerk-laws, needs)
@@ -111,29 +105,27 @@ say-behind-spec =
     (tie.spec
     Inv-loop
     μ-loop
+    mul-part
+    add-part
     loop-holds
     ahead-of-requires
     add-say-filled
     mul-say-filled
-    add-say-filled-2
-    mul-say-filled-2
     element-copy-out-say-filled
-    mul-say-filled-3
+    mul-say-filled-2
     element-copy-out-say-filled-2
-    mul-say-filled-4
+    mul-say-filled-3
     element-copy-out-say-filled-3
     say-filled-requires
     mul-say-below
     element-copy-out-say-below
     say-below-requires
-    add-say-filled-3
-    mul-say-filled-5
-    add-say-filled-4
-    mul-say-filled-6
+    add-say-filled-2
+    mul-say-filled-4
     element-copy-out-say-filled-4
-    mul-say-filled-7
+    mul-say-filled-5
     element-copy-out-say-filled-5
-    mul-say-filled-8
+    mul-say-filled-6
     element-copy-out-say-filled-6
     say-filled-requires-2
     returns

@@ -10,7 +10,7 @@ use Rattle.explain.proofs.beside.claimed.Reads as claimed-reads
 use Rattle.explain.proofs.beside.say_due.Reads as say-due-reads
 use Rattle.explain.proofs.beside.say_whose.Reads as say-whose-reads
 use Rattle.explain.proofs.beside.tell_fills.Reads as tell-fills-reads
-use Rattle.explain.proofs.order.say_contracts.Reads as say-contracts-reads
+use Rattle.explain.proofs.telling.say_contracts.Reads as say-contracts-reads
 use Rattle.explain.proofs.order.trade_at.Reads as trade-at-reads
 use Rattle.explain.proofs.words.counted.Reads as counted-reads
 use Rattle.explain.proofs.words.say.Reads as say-reads

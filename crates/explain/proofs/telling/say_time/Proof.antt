@@ -1,11 +1,11 @@
 use Rattle.explain.proofs.Clerk.{clerk-laws}
 use borrow.Author.Needs.{needs}
-use Rattle.explain.proofs.order.say_time.Statement.{statement}
-use Rattle.explain.proofs.order.say_time.Tie as tie
-use Rattle.explain.proofs.order.say_time.Reads as reads
-use Rattle.explain.proofs.order.say_time.Lts as lts
-use Rattle.explain.proofs.order.say_allowed.Reads as say-allowed-reads
-use Rattle.explain.proofs.order.until.Reads as until-reads
+use Rattle.explain.proofs.telling.say_time.Statement.{statement}
+use Rattle.explain.proofs.telling.say_time.Tie as tie
+use Rattle.explain.proofs.telling.say_time.Reads as reads
+use Rattle.explain.proofs.telling.say_time.Lts as lts
+use Rattle.explain.proofs.telling.say_allowed.Reads as say-allowed-reads
+use Rattle.explain.proofs.telling.until.Reads as until-reads
 use Rattle.explain.proofs.words.clock.Reads as clock-reads
 use Rattle.explain.proofs.words.say.Reads as say-reads
 use Rattle.reasons.proofs.allowed.Reads as allowed-reads
