@@ -14,6 +14,9 @@
  * 8 and 9, if it comes later than 180,000 ms after the cancellation. An order that is not there or was cancelled before by 8 or
  * 11, a block, another price than the trade's, more than 180,000 ms after the order, a second 11 for the exchange and trade: 7.
  * 10 is no kind (4).
+ * Of a received order (6) document 02 moves the line R that hasurenta_day writes, and nothing else: after a principal order of an
+ * exchange that was owed whole, its next ones have no duty up to and including 15,000 ms later, reason 4, and then, up to and
+ * including 60,000, answer 2 with the lesser of their size and home's principal size; docs/NUMBERS.md has where neither holds.
  * What each function answers is proved for every input: crates/desk/src/lib.rt has the statement over it.
  *
  * A slice is a pointer and a count of elements, and NULL with 0 is an empty one. Nothing is asked of what the slices hold

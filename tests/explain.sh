@@ -2,7 +2,8 @@
 # What explain says of a clerk's first day, examples/clerk.day: alone (tests/explain/alone), beside a good sheet (tests/explain/good), and beside
 # damaged ones. Of these tests/explain/NAME has what differs from the words beside the good sheet, as diff prints it: where the sheet
 # was refused, and what it says there. Then the same of tests/explain/named.day, where home cancels orders and names who initiated the trade, and of
-# tests/explain/again.day, where it cancels orders priced as for a block that was none and their exchanges send again.
+# tests/explain/again.day, where it cancels orders priced as for a block that was none and their exchanges send again. And what it says of received
+# orders, tests/explain/received.day, a day without a Satisfaction Order: alone, and the same beside its empty sheet.
 set -u
 cd "$(dirname "$0")/.." || exit 1
 work=$(mktemp -d) || exit 1
@@ -52,11 +53,11 @@ damaged one-short '\000\036\024\000\011\006\010\000\014'
 cp "$work/told" "$work/short"
 damaged one-moved '\000\035\025\000\013\004\010\000\014'
 
-# What docs/CLERK.md shows of the sheet that is one short.
-sed -n 's/^    \(Trade [0-9]\)/\1/p; s/^    \(  [a-z]\)/\1/p' docs/CLERK.md >"$work/shown"
-[ "$(wc -l <"$work/shown")" -eq 4 ] || { echo 'explain: docs/CLERK.md does not show four lines'; wrong=$((wrong + 1)); }
+# What docs/CLERK.md shows of the sheet that is one short, and of a received order.
+sed -n 's/^    \(Trade [0-9]\)/\1/p; s/^    \(Event [0-9]\)/\1/p; s/^    \(  [a-z]\)/\1/p' docs/CLERK.md >"$work/shown"
+[ "$(wc -l <"$work/shown")" -eq 6 ] || { echo 'explain: docs/CLERK.md does not show six lines'; wrong=$((wrong + 1)); }
 while IFS= read -r line; do
-    grep -qxF -e "$line" "$work/short" || { echo "explain: never told: $line"; wrong=$((wrong + 1)); }
+    grep -qxF -e "$line" "$work/short" tests/explain/received || { echo "explain: never told: $line"; wrong=$((wrong + 1)); }
 done <"$work/shown"
 
 ./hasurenta encode tests/explain/named.day >"$work/journal" || exit 1
@@ -87,6 +88,12 @@ damaged again-first-filled '\000\055\005\013\000\017\000\000\062\017\000\017'"$o
 damaged again-both-filled '\013\055\005\013\000\017\000\055\005\017\000\017'"$one$two"
 damaged again-late-filled '\013\000\062\013\000\017\000\055\005\000\017\000'"$one$two"
 damaged again-by-the-report "$zero"'\013\000\036\010\000\017\010\000\036\000\017\000'"$two"
+
+./hasurenta encode tests/explain/received.day >"$work/journal" || exit 1
+./hasurenta explain "$work/journal" >"$work/alone" || exit 1
+held received "$work/alone"
+told 0 received-beside ''
+sed 1d "$work/told" | cmp -s "$work/alone" - || { echo 'explain: received: other words beside a sheet than alone'; wrong=$((wrong + 1)); }
 
 [ "$tried" -eq "$(ls tests/explain | grep -cv '\.day$')" ] || { echo 'explain: tests/explain has a file that nothing is held to'; wrong=$((wrong + 1)); }
 echo "explain: $tried days told, $wrong wrong"

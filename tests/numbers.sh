@@ -3,6 +3,7 @@
 # - each refusal of crates/rules/specs/Refusals.antt, and no other, stands in launcher/refusals and on the page, in the same words;
 # - each reason that crates/rules/specs/Reasons.antt can give, and 0, and no other, stands on the page, and its rule in the words of explain; the
 #   same are taken for a reason by launcher/hints.sh;
+# - each reason of a line R that crates/rules/specs/Verdicts.antt can give, and no other, stands on the page and in the help of `day`;
 # - each letter that crates/rules/specs/PrintedDay.antt prints, and each kind of crates/rules/specs/Record.antt, and no other, stands on the page.
 set -u
 cd "$(dirname "$0")/.." || exit 1
@@ -42,6 +43,15 @@ while read -r rule; do
     looked=$((looked + 1))
     grep -qF "$rule" crates/explain/src/*.rt || { echo "numbers: explain names no rule $rule"; wrong=$((wrong + 1)); }
 done <"$found/rules"
+
+{
+    awk '/^noDuty h past o =/ { on = 1 } /^$/ { on = 0 } on' "$specs/Verdicts.antt" | grep -o '[0-9][0-9]* when ' | tr -d ' when'
+    sed -n 's/.*verdict executeNone 0 \([0-9][0-9]*\)$/\1/p' "$specs/Verdicts.antt"
+} | sort >"$found/duty"
+sed -n 's/^R, why there is no duty, //p' "$page" | grep -o '[:;] [0-9][0-9]* ' | tr -d ':; ' | sort >"$found/why"
+same 'reasons of a line R, and those of the page' "$found/duty" "$found/why"
+awk '/^Why there is no duty/ { on = 1 } /^$/ { on = 0 } on' launcher/help/day | tr '\n' ' ' | grep -o '[:,] *[0-9][0-9]* ' | tr -d ':, ' | sort >"$found/helped"
+same 'reasons of a line R, and those of the help' "$found/duty" "$found/helped"
 
 grep -o 'oneLine [^"]*"[A-Z]"' "$specs/PrintedDay.antt" | sed 's/.*"\(.\)"/\1/' | sort >"$found/printed"
 rows 'The lines of a day' | first_column >"$found/letters"

@@ -153,7 +153,7 @@ for text in examples/*.day; do
 done
 
 # The journals of the vectors that are accepted, as octal escapes.
-paste -d ' ' tests/vectors/i.questions tests/vectors/i.answers | awk '
+paste -d ' ' tests/vectors/d.questions tests/vectors/d.answers | awk '
     BEGIN { for (i = 0; i < 256; i++) octal[sprintf("%02x", i)] = sprintf("\\%03o", i) }
     $1 == "journal" && $3 == "accepted" {
         bytes = ""

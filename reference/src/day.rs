@@ -5,6 +5,7 @@ use crate::event::{Cancellation, HomeTrade, NoBlock, Order, Quote, Response, Sat
 use crate::header::Header;
 use crate::journal::{Moment, Watcher, open, walk};
 use crate::market::{Duty, Market};
+use crate::periods::Periods;
 use crate::refusal::{Refusal, hand_over};
 use crate::sheet::own_fills;
 
@@ -20,6 +21,7 @@ struct Row {
 /// Follows the day and keeps a row for each event that prints; an F row is filled in when the whole journal is read.
 struct Day<'h> {
     desk: Desk<'h>,
+    periods: Periods,
     rows: Vec<Row>,
 }
 
@@ -60,7 +62,7 @@ fn put_decimal(text: &mut [u8], place: usize, number: u32) -> usize {
 
 impl Day<'_> {
     fn new(header: &Header) -> Day<'_> {
-        Day { desk: Desk::new(header), rows: Vec::with_capacity(1024) }
+        Day { desk: Desk::new(header), periods: Periods::default(), rows: Vec::with_capacity(1024) }
     }
 
     fn print(&mut self, at: Moment, what: u8, values: [u32; 3]) {
@@ -82,6 +84,7 @@ impl Watcher for Day<'_> {
     fn quote(&mut self, at: Moment, market: &Market, quote: &Quote) {
         self.desk.quote(at, market, quote);
         if quote.exchange + 1 == self.desk.header.home as usize {
+            self.periods.home_quote(quote);
             let verdict = market.home_quote_verdict(quote.exchange, quote.series);
             self.print(at, b'Q', [verdict.verdict, verdict.exchange, verdict.side]);
         }
@@ -107,7 +110,7 @@ impl Watcher for Day<'_> {
 
     /// "R: 0 none, 1 whole, 2 at least; contracts, 0 for none; reason or 0."
     fn received_order(&mut self, at: Moment, market: &Market, order: &Order) {
-        let values = match market.received_order_duty(self.desk.header, order) {
+        let values = match self.periods.duty(self.desk.header, market, at.time, order) {
             Duty::None { reason } => [0, 0, reason],
             Duty::Whole { contracts } => [1, contracts, 0],
             Duty::AtLeast { contracts } => [2, contracts, 0],

@@ -18,8 +18,11 @@ pub mod make;
 pub mod market;
 pub mod number;
 pub mod orders;
+pub mod periods;
 pub mod record;
 pub mod refusal;
+#[cfg(test)]
+mod second_orders;
 pub mod sheet;
 #[cfg(test)]
 mod tests;

@@ -134,8 +134,8 @@ impl Market {
 
     /// "No duty, reason 1: home's bid (sell) or offer (buy) is absent or worse than the price. Reason 2: it is not the
     /// best. Reason 3: home is non-firm. First that holds. Otherwise the whole order if not above the firm size, else
-    /// at least the firm size."
-    pub fn received_order_duty(&self, header: &Header, order: &Order) -> Duty {
+    /// at least the firm size." A principal order is judged as a first one.
+    pub fn duty_as_first(&self, header: &Header, order: &Order) -> Duty {
         let home = header.home as usize - 1;
         let shown = self.price(home, order.series, order.meets);
         if order.meets.is_worse_or_absent(shown, order.price) {

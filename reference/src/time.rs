@@ -21,4 +21,8 @@ impl Time {
     pub const TO_CANCEL_AS_NO_BLOCK: u32 = 180_000;
     /// "Later than 180,000 ms after the cancellation": too late to send again.
     pub const TO_SEND_AGAIN: u32 = 180_000;
+    /// "No duty for 15 seconds, up to and including 15,000 ms" after an initial execution ...
+    pub const NO_SECOND_ORDER: u32 = 15_000;
+    /// "... After the 15 seconds, up to and including 60,000 ms."
+    pub const SECOND_ORDER_IN_PART: u32 = 60_000;
 }

@@ -1,5 +1,6 @@
 // When home cancelled each Satisfaction Order and named the exchange that initiated its trade. The tables of the survey keep no such time, so the
 // records are read once more.
+use crate::records;
 use header::Head;
 use numbered::SatisfactionOrder;
 use rows::Rec;
@@ -23,20 +24,16 @@ fn note(times: &mut [u32; 512], rec: Rec) {
     }
 }
 
-// The journal is accepted, so that each record is read whole; one that is not takes no bytes and ends the walk.
 pub fn read(journal: &[u8], start: usize, head: Head, times: &mut [u32; 512]) {
     let mut at = start;
     let mut time: u32 = 0;
     while at < journal.len() {
-        let taken = record::take(&journal[at..], head.exchanges, head.home, time);
-        let used = taken.used;
+        let next = records::next(journal, at, head, time);
+        let used = next.used;
         if used == 0 {
             return;
         }
-        if journal.len() - at < used {
-            return;
-        }
-        let rec = taken.rec;
+        let rec = next.rec;
         note(times, rec);
         time = rec.time;
         at += used;

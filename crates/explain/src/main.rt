@@ -1,4 +1,4 @@
-// Each Satisfaction Order and each trade of a journal in words: what a clerk needs to answer a call about it.
+// Each Satisfaction Order, each trade and each received order of a journal in words: what a clerk needs to answer a call about it.
 // `explain` takes the journal on standard input and says what our own sheet fills. `explain JOURNAL SHEET` sets a sheet beside what the journal gives: first the check's
 // answer, then in its place what was found to be wrong. Or the journal's refusal.
 ghost use Prim.Native.Nat.{_≤_, _<_};
@@ -12,6 +12,7 @@ use feed::Room;
 use journal::Rewritten;
 use libc::STDERR_FILENO;
 use libc::STDOUT_FILENO;
+use list::Row;
 use numbered::Trade;
 use said::Checked;
 use survey::Surveyed;
@@ -19,6 +20,8 @@ use survey::Surveyed;
 mod beside;
 mod cancelled;
 mod order;
+mod received;
+mod records;
 mod telling;
 mod words;
 
@@ -124,12 +127,12 @@ fn explain(journal: &[u8], sheet: &[u8], own: bool, no: u32, at: usize) {
     let mut kept = [0u32; 1024];
     let mut snaps = [0u32; 8192];
     let mut lines = [0u32; Line::WORDS];
-    let mut rows = [0u32; 1];
+    let mut list = [0u32; Row::MOST * Row::WORDS];
     let Surveyed::Whole {
         trades,
         lines: n,
-        listed: _,
-    } = survey::survey(journal, &mut kept, &mut snaps, &mut lines, &mut rows)
+        listed,
+    } = survey::survey(journal, &mut kept, &mut snaps, &mut lines, &mut list)
     else {
         return;
     };
@@ -147,7 +150,9 @@ fn explain(journal: &[u8], sheet: &[u8], own: bool, no: u32, at: usize) {
     let mut times = [Cancelled::NEVER; 512];
     cancelled::read(journal, front.used, head, &mut times);
     let close = head.close;
-    if !tell(&lines, &kept, &snaps, &said, &times, trades, n, close, told) {
+    let written = tell(&lines, &kept, &snaps, &said, &times, trades, n, close, told)
+        && received::tell(journal, front.used, head, &list, listed);
+    if !written {
         os::fail(b"standard output");
     }
 }

@@ -73,18 +73,25 @@ pub struct There {
     pub excuser: u32,
 }
 
-// Where a sender stands at trade m, in what is kept for each trade and exchange. A sender is one of the exchanges.
-fn place_of(m: usize, sender: u32) -> usize
-    requires { ⌜ m < mostTrades ⌝ }
-    ensures { λ r. ⌜ r < 1024 ⌝ }
+// Where a sender stands among the exchanges, of which it is one.
+pub fn seat_of(sender: usize) -> usize
+    ensures { λ r. ⌜ r < 8 ⌝ }
 {
     if sender == 0 {
         return 0;
     }
-    if Exchanges::MOST < sender {
+    if rows::index(Exchanges::MOST) < sender {
         return 0;
     }
-    m * 8 + rows::index(sender - 1)
+    sender - 1
+}
+
+// Where it stands at trade m, in what is kept for each trade and exchange.
+fn place_of(m: usize, sender: u32) -> usize
+    requires { ⌜ m < mostTrades ⌝ }
+    ensures { λ r. ⌜ r < 1024 ⌝ }
+{
+    m * 8 + seat_of(rows::index(sender))
 }
 
 pub fn there_at(snaps: &[u32; 8192], m: usize, sender: u32) -> There

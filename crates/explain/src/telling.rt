@@ -97,8 +97,9 @@ fn say_time(time: u32, traded: Traded, close: u32) {
     say_allowed(allowed, traded.initiator);
 }
 
-// How long after one record another came. One that cancels an order stands after it, and so is no earlier; nor is the order that is sent again.
-fn since(before: u32, after: u32) -> u32 {
+// How long after one record another came: one that cancels an order after that order, an order that is sent again after the cancellation, and a
+// received order after an execution. Each stands after the other, and so is no earlier.
+pub fn since(before: u32, after: u32) -> u32 {
     if after < before {
         return 0;
     }

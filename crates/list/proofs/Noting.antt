@@ -19,6 +19,8 @@ use Rattle.rules.proofs.Tests.{byTest, flat-append}
 use Rattle.rules.proofs.Records.{fields-as-many, InRange}
 use Rattle.rules.proofs.Journals.{numbersIn}
 use Rattle.rows.specs.declared.Rec.{Rec}
+use Rattle.periods.specs.Periods.{Tidy}
+use Rattle.periods.proofs.Keeping.{periods-stay}
 use Rattle.market.specs.Judged.{judgedAs, JudgedIs}
 use Rattle.market.specs.declared.Judged.{Judged}
 use Rattle.market.specs.declared.Judged.the-variants.{Nothing, Q, S, R, T}
@@ -119,44 +121,52 @@ few-more past e n k n2 next few told = omega arith
 
 -- ---- a record of any kind
 
-module _ (list : List ℕ) (n : ℕ) (q st : List ℕ) (exchanges home : ℕ) (sizes : List ℕ) (sent trades lines event : ℕ) (r : Rec) where
-  pub no-room : length list < (n + 1) * 5 → Noted list n q st exchanges home sizes sent trades lines event r list n
-  no-room short =
+module _ (list : List ℕ) (n : ℕ) (q st periods : List ℕ) (exchanges home : ℕ) (sizes : List ℕ) (sent trades lines event : ℕ) (r : Rec) where
+  pub no-room : length list < (n + 1) * 5 → Tidy periods → Noted list n q st periods exchanges home sizes sent trades lines event r list periods n
+  no-room short tidy =
       record {
-        so = λ h e past hd reads ranged held hs es et el ee ln ll listing. absurd (omega arith);
+        so = λ h e past hd reads ranged held hs stands es et el ee ln ll listing. absurd (omega arith);
+        kept = λ h e past hd reads held hs stands ln ll. absurd (omega arith);
+        tidy = tidy;
         long = refl;
         more = omega arith;
       }
 
   module _ (list2 : List ℕ) (n2 : ℕ) where
-    pub order-noted : r .kind ≡ satisfactionKind → RowPut list n event orderLetter lines 0 0 list2 n2
-        → Noted list n q st exchanges home sizes sent trades lines event r list2 n2
-    order-noted k p =
+    pub order-noted : r .kind ≡ satisfactionKind → Tidy periods → RowPut list n event orderLetter lines 0 0 list2 n2
+        → Noted list n q st periods exchanges home sizes sent trades lines event r list2 periods n2
+    order-noted k tidy p =
         record {
-          so = λ h e past hd reads ranged held hs es et el ee ln ll listing.
+          so = λ h e past hd reads ranged held hs stands es et el ee ln ll listing.
               record {
                 so = λ own.
                     put-order list n event orderLetter lines 0 0 list2 n2 p own refl
                     ∙ rw (listing .so own, el, ee) (sym (listed-order h own past e (reads .kind ∙ k)));
                 few = few-more past e n 1 n2 (p .next) (listing .few) (order-numbers h e ranged (reads .kind ∙ k));
               };
+          kept = λ h e past hd reads held hs stands ln ll.
+              periods-stay h e past periods (λ z. omega (arith, z, reads .kind, k)) (λ z _. omega (arith, z, reads .kind, k)) stands;
+          tidy = tidy;
           long = p .long;
           more = omega (arith, p .next);
         }
 
-    pub verdict-noted : (r .kind ≡ satisfactionKind → ⊥) → (v : Judged) → JudgedIs q st exchanges home sizes sent trades r v
-        → JudgedPut list n event v list2 n2 → Noted list n q st exchanges home sizes sent trades lines event r list2 n2
-    verdict-noted ne v is p =
+    pub verdict-noted : (r .kind ≡ satisfactionKind → ⊥) → (v : Judged) (periods2 : List ℕ) → JudgedIs q st periods exchanges home sizes sent trades r periods2 v
+        → JudgedPut list n event v list2 n2 → Noted list n q st periods exchanges home sizes sent trades lines event r list2 periods2 n2
+    verdict-noted ne v periods2 is p =
         record {
-          so = λ h e past hd reads ranged held hs es et el ee ln ll listing.
+          so = λ h e past hd reads ranged held hs stands es et el ee ln ll listing.
               record {
                 so = λ own.
                     p .so own
-                    ∙ rw (listing .so own, ee, is .so h e past hd reads held hs es et)
+                    ∙ rw (listing .so own, ee, is .so h e past hd reads held hs stands es et)
                     (sym (listed-other h own past e (λ z. ne (sym (reads .kind) ∙ z))));
                 few =
-                    few-more past e n _ n2 (p .lines ∙ rw (ee, is .so h e past hd reads held hs es et)) (listing .few) (judged-numbers h e ranged past);
+                    few-more past e n _ n2 (p .lines ∙ rw (ee, is .so h e past hd reads held hs stands es et)) (listing .few)
+                    (judged-numbers h e ranged past);
               };
+          kept = λ h e past hd reads held hs stands ln ll. is .kept h e past hd reads held hs stands;
+          tidy = is .tidy;
           long = p .long;
           more = p .more;
         }

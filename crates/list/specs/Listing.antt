@@ -18,6 +18,7 @@ use Rattle.rows.specs.declared.Rec.{Rec}
 use Rattle.text.specs.Lines.{lineOf}
 use Rattle.quotes.specs.Tables.{Quoted, Statuses}
 use Rattle.orders.specs.Orders.{Heads}
+use Rattle.periods.specs.Periods.{Periods, Tidy}
 use Rattle.market.specs.Judged.{judgedAs}
 use Rattle.market.specs.declared.Judged.{Judged}
 
@@ -89,9 +90,13 @@ pub record JudgedPut (list : List ℕ) (n event : ℕ) (v : Judged) (list2 : Lis
 
 -- ---- one record, of any kind
 
-pub record Noted (list : List ℕ) (n : ℕ) (q st : List ℕ) (exchanges home : ℕ) (sizes : List ℕ) (sent trades lines event : ℕ) (r : Rec) (list2 : List ℕ) (n2 : ℕ) : Type 0 where
+pub record Noted (list : List ℕ) (n : ℕ) (q st periods : List ℕ) (exchanges home : ℕ) (sizes : List ℕ) (sent trades lines event : ℕ) (r : Rec)
+    (list2 periods2 : List ℕ) (n2 : ℕ) : Type 0 where
   pub so : (h : Header) (e : Event) (past : History) → Heads h exchanges home sizes → Reads e r → InRange h e → Quoted past q → Statuses past st
-      → sent ≡ count isSent past → trades ≡ count isTrade past → lines ≡ count isSatisfaction past → event ≡ length past
+      → Periods h past periods → sent ≡ count isSent past → trades ≡ count isTrade past → lines ≡ count isSatisfaction past → event ≡ length past
       → n < mostRows → length list ≡ listWords → Listing h past list n → Listing h (e ∷ past) list2 n2
+  pub kept : (h : Header) (e : Event) (past : History) → Heads h exchanges home sizes → Reads e r → Quoted past q → Statuses past st
+      → Periods h past periods → n < mostRows → length list ≡ listWords → Periods h (e ∷ past) periods2
+  pub tidy : Tidy periods2
   pub long : length list2 ≡ length list
   pub more : n2 ≤ n + 1

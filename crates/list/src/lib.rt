@@ -5,8 +5,10 @@ ghost use lib.ListN.{length};
 ghost use Rattle.rules.specs.Limits.{mostTrades, mostSentOrders, mostSatisfactionOrders};
 ghost use Rattle.rows.specs.Rows.{RecOk};
 ghost use Rattle.orders.specs.Orders.{Headed};
+ghost use Rattle.periods.specs.Periods.{Tidy};
 ghost use Rattle.list.specs.Listing.{mostRecords, RowPut, JudgedPut, Noted};
 use market::Judged;
+use periods::Period;
 use rows::Numbers;
 use rows::Rec;
 use rows::Seat;
@@ -59,12 +61,13 @@ fn put_judged(list: &mut [u32], n: usize, event: u32, v: Judged) -> usize
 }
 
 // One record of any kind; `before` and `event` count what came before it. Where the list has no room nothing is
-// judged: a walk that wants no list lends an empty one.
+// judged, and no period kept: a walk that wants no list lends an empty one.
 pub fn note(
     list: &mut [u32],
     n: usize,
     q: &[u32; 2048],
     st: &[u32; 8],
+    periods: &mut [u32; Period::WORDS],
     seat: Seat,
     sizes: &[u32; 16],
     before: Numbers,
@@ -73,8 +76,8 @@ pub fn note(
 ) -> usize
     requires { ⌜ Headed (seat .exchanges) (seat .home) × RecOk (seat .exchanges) (seat .home) r ⌝ }
     requires { ⌜ (before .orders ≤ mostSentOrders) × (before .trades ≤ mostTrades) × (before .lines ≤ mostSatisfactionOrders) ⌝ }
-    requires { ⌜ (n ≤ mostRecords) × (event ≤ mostRecords) ⌝ }
-    ensures { λ k. ⌜ Noted (now (list .entry)) n (now (q .entry)) (now (st .entry)) (seat .exchanges) (seat .home) (now (sizes .entry)) (before .orders) (before .trades) (before .lines) event r (now (list .exit)) k ⌝ }
+    requires { ⌜ (n ≤ mostRecords) × (event ≤ mostRecords) × Tidy (now periods) ⌝ }
+    ensures { λ k. ⌜ Noted (now (list .entry)) n (now (q .entry)) (now (st .entry)) (now (periods .entry)) (seat .exchanges) (seat .home) (now (sizes .entry)) (before .orders) (before .trades) (before .lines) event r (now (list .exit)) (now (periods .exit)) k ⌝ }
 {
     if list.len() < (n + 1) * Row::WORDS {
         return n;
@@ -87,6 +90,7 @@ pub fn note(
     let v = market::judge(
         q,
         st,
+        periods,
         seat.exchanges,
         seat.home,
         sizes,

@@ -1,24 +1,28 @@
 -- What is printed of a record: the kind decides, one law for each.
 use mathlib.Core.Path.{_≡_, _∙_, sym, ap}
-use mathlib.Core.Bool.{Bool, true, false, not, and-false}
+use mathlib.Core.Bool.{Bool, true, false, not, and-false, true≢false}
 use mathlib.Core.List.{List}
-use Prim.Native.Nat.{ℕ, _<_, _≤_}
+use Prim.Native.Nat.{ℕ, _<_}
 use native.Mathlib.Omega.{arith}
 use mir.Val.{Fits}
 use mir.Syntax.{w32}
 use lib.Dec.{eqb}
 use lib.ListN.{length}
-use borrow.Author.Tests.{eq-eqb, ne-eqb, not-true, not-false}
+use borrow.Author.Tests.{eq-eqb, ne-eqb, eqb-true, not-true, not-false}
 use Rattle.rules.specs.Basics.{bit}
 use Rattle.rules.specs.Header.{Header}
 use Rattle.rules.specs.Record as paper
-use Rattle.rules.specs.Record.{Event, field, quoteKind, tradeKind, sentKind, receivedKind}
-use Rattle.rules.specs.Verdicts.{verdict, sentOrder, receivedOrder}
+use Rattle.rules.specs.Record.{Event, field, isSent, isTrade, quoteKind, tradeKind, sentKind, receivedKind}
+use Rattle.rules.specs.Journal.{History, count}
+use Rattle.rules.specs.Verdicts.{verdict, sentOrder}
 use Rattle.rules.specs.PrintedDay.{oneLine, judged}
-use Rattle.rows.specs.Rows.{Reads, OrderOk, RecOk}
+use Rattle.rows.specs.Rows.{Reads, RecOk}
 use Rattle.rows.specs.declared.Rec.{Rec}
-use Rattle.quotes.specs.Tables.{Within}
-use Rattle.orders.specs.Orders.{Headed, Heads, asOrder, OrderIs, sentAs, dutyAs, SentIs, DutyIs}
+use Rattle.quotes.specs.Tables.{Quoted, Statuses, Within}
+use Rattle.orders.specs.Orders.{Headed, Heads, OrderIs, sentAs, dutyAs, SentIs}
+use Rattle.orders.proofs.OrderVerdicts.{order-is, order-from, order-to, order-series}
+use Rattle.periods.specs.Periods.{Tidy, ReceivedIs, Requoted}
+use Rattle.periods.proofs.Keeping.{periods-stay}
 use Rattle.home.specs.Home.{homesOf, QuoteIs, SameQuote, againstAs, AgainstIs}
 use Rattle.through.proofs.TradeVerdicts.{trade-is, series-low}
 use Rattle.through.specs.Trades.{TradeIs, CountIs, BlockIs}
@@ -88,11 +92,6 @@ module _ (r : Rec) (e : Event) (reads : Reads e r) where
         offer = sym (is .offer ∙ reads .fields 5);
       }
 
-  pub order-is : (o : Order) → OrderIs r o → asOrder o ≡ paper.order e
-  unfolding asOrder
-  order-is o is =
-      rw (is .type ∙ reads .fields 0, is .other ∙ reads .fields 1, is .series ∙ reads .fields 2, is .side ∙ reads .fields 3, is .price ∙ reads .fields 4, is .size ∙ reads .fields 5)
-
   kind-is : (k : ℕ) → r .kind ≡ k → eqb (e .kind) k ≡ true
   kind-is k z = eq-eqb (e .kind) k (reads .kind ∙ z)
 
@@ -105,71 +104,89 @@ module _ (r : Rec) (e : Event) (reads : Reads e r) where
 
 -- ---- the kind decides
 
-module _ (q st : List ℕ) (n home : ℕ) (sizes : List ℕ) (sent trades : ℕ) (r : Rec) where
+module _ (q st periods : List ℕ) (n home : ℕ) (sizes : List ℕ) (sent trades : ℕ) (r : Rec) where
+  module _ (tidy : Tidy periods) where
+    -- a record that is neither a home quote nor a received order leaves the periods
+    leaves-periods : (r .kind ≡ receivedKind → ⊥) → ((h : Header) (e : Event) → Heads h n home sizes → Reads e r → e .kind ≡ quoteKind → field e 0 ≡ h .home → ⊥) → (a : Judged)
+        → ((h : Header) (e : Event) (past : History) → Heads h n home sizes → Reads e r → Quoted past q → Statuses past st → sent ≡ count isSent past → trades ≡ count isTrade past
+        → judgedAs (length past) a ≡ judged h past e)
+        → JudgedIs q st periods n home sizes sent trades r periods a
+    leaves-periods n6 away a so =
+        record {
+          tidy = tidy;
+          so = λ h e past hd reads held hs stands es et. so h e past hd reads held hs es et;
+          kept = λ h e past hd reads held hs stands. periods-stay h e past periods (λ z. n6 (sym (reads .kind) ∙ z)) (away h e hd reads) stands;
+        }
+
+    no-quote : (r .kind ≡ quoteKind → ⊥) → (h : Header) (e : Event) → Heads h n home sizes → Reads e r → e .kind ≡ quoteKind → field e 0 ≡ h .home → ⊥
+    no-quote n1 h e hd reads k _ = n1 (sym (reads .kind) ∙ k)
+
   module _ (k1 : r .kind ≡ quoteKind) (b : Bool) (eb : b ≡ homesOf r home) where
     -- the same test, of the event
     home-is : (h : Header) (e : Event) → Heads h n home sizes → Reads e r → eqb (field e 0) (h .home) ≡ b
     unfolding homesOf
     home-is h e hd reads = rw (← reads .fields 0, hd .home, eb)
 
-    pub judged-away : not b ≡ true → JudgedIs q st n home sizes sent trades r Nothing
+    pub judged-away : not b ≡ true → Tidy periods → JudgedIs q st periods n home sizes sent trades r periods Nothing
     unfolding judged judgedAs
-    judged-away z =
-        record {
-          so = λ h e past hd reads held hs es et.
-              rw (home-is h e hd reads ∙ not-true b z, and-false (eqb (e .kind) 1), kind-other r e reads 1 4 k1 (λ z. omega arith), kind-other r e reads 1 6 k1 (λ z. omega arith), kind-other r e reads 1 3 k1 (λ z. omega arith));
-        }
+    judged-away z tidy =
+        leaves-periods tidy (λ y. omega (arith, y, k1))
+        (λ h e hd reads k mine. true≢false (sym (eq-eqb (field e 0) (h .home) mine) ∙ home-is h e hd reads ∙ not-true b z)) Nothing
+        (λ h e past hd reads held hs es et.
+        rw (home-is h e hd reads ∙ not-true b z, and-false (eqb (e .kind) 1), kind-other r e reads 1 4 k1 (λ z. omega arith), kind-other r e reads 1 6 k1 (λ z. omega arith), kind-other r e reads 1 3 k1 (λ z. omega arith)))
 
-    pub judged-home : not b ≡ false → (v : Against) (a : Judged) → QuoteSays v a → (w : HomeQuote) → AgainstIs q n home w v → QuoteIs r w
-        → JudgedIs q st n home sizes sent trades r a
+    pub judged-home : not b ≡ false → (v : Against) (a : Judged) → QuoteSays v a → (w : HomeQuote) → AgainstIs q n home w v → QuoteIs r w → (periods2 : List ℕ) → Requoted r periods periods2
+        → JudgedIs q st periods n home sizes sent trades r periods2 a
     unfolding judged
-    judged-home z v a says w against is =
+    judged-home z v a says w against is periods2 marked =
         record {
-          so = λ h e past hd reads held hs es et.
+          tidy = marked .tidy;
+          so = λ h e past hd reads held hs stands es et.
               rw (kind-is r e reads 1 k1, home-is h e hd reads ∙ not-false b z)
               (says .so (length past) ∙ ap (oneLine (length past) "Q") (against .so h past (paper.quote e) (hd .exchanges) (hd .home) (quote-is r e reads w is) held));
+          kept = λ h e past hd reads held hs stands.
+              marked .kept h e past reads (reads .kind ∙ k1) (eqb-true (field e 0) (h .home) (home-is h e hd reads ∙ not-false b z)) stands;
         }
 
   module _ (n1 : r .kind ≡ quoteKind → ⊥) where
-    pub judged-sent : r .kind ≡ sentKind → (v : Sent) (a : Judged) → SentSays v sent a → (o : Order) → SentIs q n o v → OrderIs r o
-        → JudgedIs q st n home sizes sent trades r a
+    pub judged-sent : r .kind ≡ sentKind → Tidy periods → (v : Sent) (a : Judged) → SentSays v sent a → (o : Order) → SentIs q n o v → OrderIs r o
+        → JudgedIs q st periods n home sizes sent trades r periods a
     unfolding judged
-    judged-sent k v a says o is taken =
-        record {
-          so = λ h e past hd reads held hs es et.
-              rw (kind-not r e reads 1 n1, kind-is r e reads 4 k, ← es)
-              (says .so (length past) ∙ ap (λ y. oneLine (length past) "S" (verdict y sent 0)) (is .so h past (hd .exchanges) held ∙ ap (sentOrder h past) (order-is r e reads o taken)));
-        }
+    judged-sent k tidy v a says o is taken =
+        leaves-periods tidy (λ y. omega (arith, y, k)) (no-quote tidy n1) a
+        (λ h e past hd reads held hs es et.
+        rw (kind-not r e reads 1 n1, kind-is r e reads 4 k, ← es)
+        (says .so (length past) ∙ ap (λ y. oneLine (length past) "S" (verdict y sent 0)) (is .so h past (hd .exchanges) held ∙ ap (sentOrder h past) (order-is r e reads o taken))))
 
     module _ (n4 : r .kind ≡ sentKind → ⊥) where
-      pub judged-received : r .kind ≡ receivedKind → (v : Duty) (a : Judged) → DutySays v a → (o : Order) → DutyIs q st n home sizes o v → OrderIs r o
-          → JudgedIs q st n home sizes sent trades r a
+      pub judged-received : r .kind ≡ receivedKind → (v : Duty) (a : Judged) → DutySays v a → (periods2 : List ℕ) → ReceivedIs q st periods n home sizes r periods2 v
+          → JudgedIs q st periods n home sizes sent trades r periods2 a
       unfolding judged
-      judged-received k v a says o is taken =
+      judged-received k v a says periods2 is =
           record {
-            so = λ h e past hd reads held hs es et.
+            tidy = is .tidy;
+            so = λ h e past hd reads held hs stands es et.
                 rw (kind-not r e reads 1 n1, kind-not r e reads 4 n4, kind-is r e reads 6 k)
-                (says .so (length past) ∙ ap (oneLine (length past) "R") (is .so h past hd held hs ∙ ap (receivedOrder h past) (order-is r e reads o taken)));
+                (says .so (length past) ∙ ap (oneLine (length past) "R") (is .so h e past hd reads held hs stands));
+            kept = is .kept;
           }
 
       module _ (n6 : r .kind ≡ receivedKind → ⊥) where
-        pub judged-trade : r .kind ≡ tradeKind → (c y : ℕ) (t : Trade) → CountIs q n home t c → (b : Bool) → BlockIs q n t b → y ≡ bit b → TradeIs r t
-            → JudgedIs q st n home sizes sent trades r (T trades c y)
+        pub judged-trade : r .kind ≡ tradeKind → Tidy periods → (c y : ℕ) (t : Trade) → CountIs q n home t c → (b : Bool) → BlockIs q n t b → y ≡ bit b → TradeIs r t
+            → JudgedIs q st periods n home sizes sent trades r periods (T trades c y)
         unfolding judged judgedAs
-        judged-trade k c y t counted b block ey is =
-            record {
-              so = λ h e past hd reads held hs es et.
-                  let same = trade-is r e reads t is in
-                  rw (kind-not r e reads 1 n1, kind-not r e reads 4 n4, kind-not r e reads 6 n6, kind-is r e reads 3 k, ← et, ← counted .so h past (paper.trade e) (hd .exchanges) (hd .home) same held, ← block .so h past (paper.trade e) (hd .exchanges) same held, ey);
-            }
+        judged-trade k tidy c y t counted b block ey is =
+            leaves-periods tidy n6 (no-quote tidy n1) (T trades c y)
+            (λ h e past hd reads held hs es et.
+            let same = trade-is r e reads t is in
+            rw (kind-not r e reads 1 n1, kind-not r e reads 4 n4, kind-not r e reads 6 n6, kind-is r e reads 3 k, ← et, ← counted .so h past (paper.trade e) (hd .exchanges) (hd .home) same held, ← block .so h past (paper.trade e) (hd .exchanges) same held, ey))
 
-        pub judged-other : (r .kind ≡ tradeKind → ⊥) → JudgedIs q st n home sizes sent trades r Nothing
+        pub judged-other : (r .kind ≡ tradeKind → ⊥) → Tidy periods → JudgedIs q st periods n home sizes sent trades r periods Nothing
         unfolding judged judgedAs
-        judged-other n3 =
-            record {
-              so = λ h e past hd reads held hs es et.
-                  rw (kind-not r e reads 1 n1, kind-not r e reads 4 n4, kind-not r e reads 6 n6, kind-not r e reads 3 n3);
-            }
+        judged-other n3 tidy =
+            leaves-periods tidy n6 (no-quote tidy n1) Nothing
+            (λ h e past hd reads held hs es et.
+            rw (kind-not r e reads 1 n1, kind-not r e reads 4 n4, kind-not r e reads 6 n6, kind-not r e reads 3 n3))
 
 -- ---- what the callees require
 
@@ -183,27 +200,13 @@ module _ (n home : ℕ) (r : Rec) (ok : RecOk n home r) where
   pub trade-series : (t : Trade) → TradeIs r t → r .kind ≡ tradeKind → t .series < 32
   trade-series t is k = series-low n r t (ok .trade k) is
 
-  module _ (o : Order) (is : OrderIs r o) where
-    order-from : OrderOk n home r → 1 ≤ o .other
-    order-from g = omega (arith, g .other .from-one, is .other)
+  pub sent-within : (o : Order) → OrderIs r o → r .kind ≡ sentKind → Headed n home → Within (o .other) (o .series)
+  sent-within o is k hd =
+      let g = ok .sent k in
+      record {
+        from-one = order-from n home r g o is;
+        to-eight = omega (arith, order-to n home r g o is, hd .few);
+        low = order-series n home r g o is;
+      }
 
-    order-to : OrderOk n home r → o .other ≤ n
-    order-to g = omega (arith, g .other .to-n, is .other)
-
-    order-series : OrderOk n home r → o .series < 32
-    order-series g = omega (arith, g .series, is .series)
-
-    pub sent-within : r .kind ≡ sentKind → Headed n home → Within (o .other) (o .series)
-    sent-within k hd =
-        let g = ok .sent k in record { from-one = order-from g; to-eight = omega (arith, order-to g, hd .few); low = order-series g }
-
-    pub received-from : r .kind ≡ receivedKind → 1 ≤ o .other
-    received-from k = order-from (ok .received k)
-
-    pub received-to : r .kind ≡ receivedKind → o .other ≤ n
-    received-to k = order-to (ok .received k)
-
-    pub received-series : r .kind ≡ receivedKind → o .series < 32
-    received-series k = order-series (ok .received k)
-
-pub ruleset judge-laws = (says-clear, says-locked, says-crossed, says-fine, says-not-shown, says-not-best, says-none, says-whole, says-least, judged-away, judged-home, judged-sent, judged-received, judged-trade, judged-other, quote-series, count-fits, trade-series, sent-within, received-from, received-to, received-series)
+pub ruleset judge-laws = (says-clear, says-locked, says-crossed, says-fine, says-not-shown, says-not-best, says-none, says-whole, says-least, judged-away, judged-home, judged-sent, judged-received, judged-trade, judged-other, quote-series, count-fits, trade-series, sent-within)

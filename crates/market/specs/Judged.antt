@@ -1,6 +1,6 @@
 -- What is printed of a record: the code's answer as lines of the printed day, and what is promised of every history that the tables hold.
 use mathlib.Core.Path.{_≡_}
-use mathlib.Core.List.{List, []}
+use mathlib.Core.List.{List, [], _∷_}
 use Prim.Native.Nat.{ℕ}
 use lib.ListN.{length}
 use Rattle.rules.specs.Header.{Header}
@@ -12,6 +12,7 @@ use Rattle.rows.specs.Rows.{Reads}
 use Rattle.rows.specs.declared.Rec.{Rec}
 use Rattle.quotes.specs.Tables.{Quoted, Statuses}
 use Rattle.orders.specs.Orders.{Heads, sentAs, dutyAs}
+use Rattle.periods.specs.Periods.{Periods, Tidy}
 use Rattle.home.specs.Home.{againstAs}
 use Rattle.market.specs.declared.Judged.{Judged}
 use Rattle.market.specs.declared.Judged.the-variants.{Nothing, Q, S, R, T}
@@ -40,6 +41,9 @@ pub record DutySays (v : Duty) (r : Judged) : Type 0 where
 
 -- ---- a record of any kind
 
-pub record JudgedIs (q st : List ℕ) (n home : ℕ) (sizes : List ℕ) (sent trades : ℕ) (r : Rec) (a : Judged) : Type 0 where
-  pub so : (h : Header) (e : Event) (past : History) → Heads h n home sizes → Reads e r → Quoted past q → Statuses past st
+pub record JudgedIs (q st periods : List ℕ) (n home : ℕ) (sizes : List ℕ) (sent trades : ℕ) (r : Rec) (periods2 : List ℕ) (a : Judged) : Type 0 where
+  pub tidy : Tidy periods2
+  pub so : (h : Header) (e : Event) (past : History) → Heads h n home sizes → Reads e r → Quoted past q → Statuses past st → Periods h past periods
       → sent ≡ count isSent past → trades ≡ count isTrade past → judgedAs (length past) a ≡ judged h past e
+  pub kept : (h : Header) (e : Event) (past : History) → Heads h n home sizes → Reads e r → Quoted past q → Statuses past st → Periods h past periods
+      → Periods h (e ∷ past) periods2

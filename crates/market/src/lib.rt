@@ -3,10 +3,12 @@ ghost use Prim.Native.Nat.{_≤_};
 ghost use Rattle.rules.specs.Limits.{mostTrades, mostSentOrders};
 ghost use Rattle.rows.specs.Rows.{RecOk};
 ghost use Rattle.orders.specs.Orders.{Headed};
+ghost use Rattle.periods.specs.Periods.{Tidy};
 ghost use Rattle.market.specs.Judged.{QuoteSays, SentSays, DutySays, JudgedIs};
 use home::Against;
 use orders::Duty;
 use orders::Sent;
+use periods::Period;
 use rows::Rec;
 
 // What is printed of a record: its letter, and a, b, c.
@@ -49,10 +51,11 @@ fn duty_says(v: Duty) -> Judged
 }
 
 // "Away quotes, statuses and responses print nothing."; what is printed of a Satisfaction Order is our own sheet's.
-// `sent` and `trades` count the sent orders and the trades before this record.
+// `sent` and `trades` count the sent orders and the trades before this record; `periods` stands as before it, and then as after it.
 pub fn judge(
     q: &[u32; 2048],
     st: &[u32; 8],
+    periods: &mut [u32; Period::WORDS],
     n: usize,
     home: usize,
     sizes: &[u32; 16],
@@ -61,13 +64,14 @@ pub fn judge(
     r: Rec,
 ) -> Judged
     requires { ⌜ Headed n home × RecOk n home r ⌝ }
-    requires { ⌜ (sent ≤ mostSentOrders) × (trades ≤ mostTrades) ⌝ }
-    ensures { λ a. ⌜ JudgedIs (now (q .entry)) (now (st .entry)) n home (now (sizes .entry)) sent trades r a ⌝ }
+    requires { ⌜ (sent ≤ mostSentOrders) × (trades ≤ mostTrades) × Tidy (now periods) ⌝ }
+    ensures { λ a. ⌜ JudgedIs (now (q .entry)) (now (st .entry)) (now (periods .entry)) n home (now (sizes .entry)) sent trades r (now (periods .exit)) a ⌝ }
 {
     if r.kind == Rec::QUOTE {
         if !home::is_home(r, home) {
             return Judged::Nothing;
         }
+        periods::keep_requotes(periods, r);
         return quote_says(home::home_quote(q, n, home, home::quote_of(r)));
     }
     if r.kind == Rec::SENT {
@@ -75,7 +79,7 @@ pub fn judge(
         return sent_says(orders::sent_order(q, n, orders::order_of(r)), number);
     }
     if r.kind == Rec::RECEIVED {
-        return duty_says(orders::received_order(q, st, n, home, sizes, orders::order_of(r)));
+        return duty_says(periods::received_order(q, st, periods, n, home, sizes, r));
     }
     if r.kind == Rec::TRADE {
         let t = through::trade_of(r);

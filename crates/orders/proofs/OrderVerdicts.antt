@@ -7,19 +7,21 @@ use native.Mathlib.Omega.{arith}
 use native.Mathlib.Numerals.{add-one}
 use lib.ListN.{getD}
 use lib.Seq.{getD-take}
-use borrow.Author.Tests.{eq-eqb, ne-eqb, le-leb, lt-leb}
+use borrow.Author.Tests.{eq-eqb, ne-eqb}
 use Rattle.rules.specs.Basics.{firstOf}
 use Rattle.rules.specs.Header.{Header, automatic, principal, sizesOf}
 use Rattle.rules.specs.Record as paper
+use Rattle.rules.specs.Record.{Event}
 use Rattle.rules.specs.Journal.{History}
 use Rattle.rules.specs.Prices.{standing, statusOf}
-use Rattle.rules.specs.Verdicts.{sentOrder, noDuty, firmSize, receivedOrder}
+use Rattle.rules.specs.Verdicts.{sentOrder, noDuty, firmSize}
+use Rattle.rows.specs.Rows.{Reads, OrderOk}
+use Rattle.rows.specs.declared.Rec.{Rec}
 use Rattle.quotes.specs.Tables.{Quoted, Statuses, Within}
 use Rattle.prices.specs.Prices.{aboveOf, equalOf, bidOf, offerOf, PlaceIs, BidIs, OfferIs}
-use Rattle.orders.specs.Orders.{Headed, Heads, asOrder, worseOf, shownAt, bestAt, sentAs, dutyAs, ShownIs, BestIs, SentIs, NoDutyIs, FirmIs, DutyIs}
+use Rattle.orders.specs.Orders.{Headed, Heads, asOrder, OrderIs, worseOf, shownAt, bestAt, sentAs, ShownIs, BestIs, SentIs, NoDutyIs, FirmIs}
 use Rattle.orders.specs.declared.Order.{Order}
 use Rattle.orders.specs.declared.Sent.the-variants.{Fine, NotShown, NotBest}
-use Rattle.orders.specs.declared.Duty.the-variants.{NoDuty, Whole, AtLeast}
 use Rattle.prices.proofs.BestPrices.{Shows, bid-shown, offer-shown}
 
 module _ (side there price : ℕ) (r : Bool) where
@@ -139,30 +141,26 @@ module _ (n home : ℕ) (sizes : List ℕ) (o : Order) (hd : Headed n home) (fro
         so = λ h hs. rw (ne-eqb _ _ e) (sym (ap (principal h) (hs .home) ∙ size-at h hs (2 * (home - 1) + 1) (omega arith)));
       }
 
--- ---- a received order
+-- ---- what the code took out of a record is what the paper names
 
-module _ (q st : List ℕ) (n home : ℕ) (sizes : List ℕ) (o : Order) (r : ℕ) (er : NoDutyIs q st n home o r) where
-  reason-is : (h : Header) (past : History) → Heads h n home sizes → Quoted past q → Statuses past st → r ≡ noDuty h past (asOrder o)
-  reason-is h past hd held hs = er .so h past (hd .exchanges) (hd .home) held hs
+pub order-is : (r : Rec) (e : Event) → Reads e r → (o : Order) → OrderIs r o → asOrder o ≡ paper.order e
+unfolding asOrder
+order-is r e reads o is =
+    rw (is .type ∙ reads .fields 0, is .other ∙ reads .fields 1, is .series ∙ reads .fields 2, is .side ∙ reads .fields 3, is .price ∙ reads .fields 4, is .size ∙ reads .fields 5)
 
-  pub received-none : (r ≡ 0 → ⊥) → DutyIs q st n home sizes o (NoDuty r)
-  unfolding receivedOrder dutyAs
-  received-none ne = record { so = λ h past hd held hs. rw (← reason-is h past hd held hs, ne-eqb _ _ ne) }
+module _ (n home : ℕ) (r : Rec) (ok : OrderOk n home r) (o : Order) (is : OrderIs r o) where
+  pub order-from : 1 ≤ o .other
+  order-from = omega (arith, ok .other .from-one, is .other)
 
-  module _ (z : r ≡ 0) (f : ℕ) (ef : FirmIs n home sizes o f) where
-    pub received-whole : o .size ≤ f → DutyIs q st n home sizes o (Whole (o .size))
-    unfolding receivedOrder dutyAs asOrder
-    received-whole l =
-        record { so = λ h past hd held hs. rw (← reason-is h past hd held hs, eq-eqb _ _ z, ← ef .so h hd, le-leb _ _ l) }
+  pub order-to : o .other ≤ n
+  order-to = omega (arith, ok .other .to-n, is .other)
 
-    pub received-least : f < o .size → DutyIs q st n home sizes o (AtLeast f)
-    unfolding receivedOrder dutyAs asOrder
-    received-least l =
-        record { so = λ h past hd held hs. rw (← reason-is h past hd held hs, eq-eqb _ _ z, ← ef .so h hd, lt-leb _ _ l) }
+  pub order-series : o .series < 32
+  order-series = omega (arith, ok .series, is .series)
 
 -- ---- what the callees require
 
 pub home-within : (n home s : ℕ) → Headed n home → s < 32 → Within home s
 home-within n home s hd low = record { from-one = hd .from-one; to-eight = omega arith; low = low }
 
-pub ruleset order-laws = (worse-buy, worse-sell, shown-offer, shown-bid, best-buy, best-sell, sent-not-shown, sent-not-best, sent-fine, duty-absent, duty-worse, duty-not-best, duty-non-firm, duty-full, firm-linked, firm-principal, received-none, received-whole, received-least, home-within)
+pub ruleset order-laws = (worse-buy, worse-sell, shown-offer, shown-bid, best-buy, best-sell, sent-not-shown, sent-not-best, sent-fine, duty-absent, duty-worse, duty-not-best, duty-non-firm, duty-full, firm-linked, firm-principal, home-within)

@@ -8,7 +8,7 @@ use Rattle.rules.specs.Header.{Header, sizesOf}
 use Rattle.rules.specs.Record as paper
 use Rattle.rules.specs.Journal.{History}
 use Rattle.rules.specs.Prices.{standing}
-use Rattle.rules.specs.Verdicts.{Verdict, verdict, shown, best, worse, sentOrder, noDuty, firmSize, receivedOrder}
+use Rattle.rules.specs.Verdicts.{Verdict, verdict, executeNone, executeWhole, executeAtLeast, shown, best, worse, sentOrder, noDuty, firmSize}
 use Rattle.rows.specs.Rows.{word}
 use Rattle.rows.specs.declared.Rec.{Rec}
 use Rattle.quotes.specs.Tables.{Quoted, Statuses}
@@ -68,9 +68,9 @@ sentAs NotBest = 2
 
 -- R: "0 none, 1 whole, 2 at least; contracts, 0 for none; reason or 0"
 unfoldable pub dutyAs : Duty → Verdict
-dutyAs (NoDuty reason) = verdict 0 0 reason
-dutyAs (Whole contracts) = verdict 1 contracts 0
-dutyAs (AtLeast contracts) = verdict 2 contracts 0
+dutyAs (NoDuty reason) = verdict executeNone 0 reason
+dutyAs (Whole contracts) = verdict executeWhole contracts 0
+dutyAs (AtLeast contracts) = verdict executeAtLeast contracts 0
 
 pub record ShownIs (q : List ℕ) (x s side r : ℕ) : Type 0 where
   pub so : (past : History) → Quoted past q → r ≡ shownAt side x s past
@@ -86,6 +86,3 @@ pub record NoDutyIs (q st : List ℕ) (n home : ℕ) (o : Order) (r : ℕ) : Typ
 
 pub record FirmIs (n home : ℕ) (sizes : List ℕ) (o : Order) (r : ℕ) : Type 0 where
   pub so : (h : Header) → Heads h n home sizes → r ≡ firmSize h (asOrder o)
-
-pub record DutyIs (q st : List ℕ) (n home : ℕ) (sizes : List ℕ) (o : Order) (r : Duty) : Type 0 where
-  pub so : (h : Header) (past : History) → Heads h n home sizes → Quoted past q → Statuses past st → dutyAs r ≡ receivedOrder h past (asOrder o)

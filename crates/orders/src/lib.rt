@@ -1,8 +1,8 @@
-// The verdicts on sent and received orders. A buy order goes for the offer, a sell order for the bid.
+// The verdict on sent orders, and what verdicts on received ones are made of. A buy order goes for the offer, a sell order for the bid.
 ghost use mathlib.Core.Path.{_≡_};
 ghost use Prim.Native.Nat.{_≤_, _<_};
 ghost use Rattle.quotes.specs.Tables.{Within};
-ghost use Rattle.orders.specs.Orders.{worseOf, Headed, OrderIs, ShownIs, BestIs, SentIs, NoDutyIs, FirmIs, DutyIs};
+ghost use Rattle.orders.specs.Orders.{worseOf, Headed, OrderIs, ShownIs, BestIs, SentIs, NoDutyIs, FirmIs};
 use quotes::Quote;
 use rows::Rec;
 use rows::Status;
@@ -53,6 +53,9 @@ impl Duty {
     pub const NOT_BEST: u32 = 2;
 
     pub const NON_FIRM: u32 = 3;
+
+    // A further principal order, so soon after the initial execution.
+    pub const TOO_SOON: u32 = 4;
 }
 
 pub fn order_of(r: Rec) -> Order
@@ -78,7 +81,7 @@ fn is_worse(side: u32, there: u32, price: u32) -> bool
     prices::is_above(price, there)
 }
 
-fn shown_price(q: &[u32; 2048], exchange: usize, series: usize, side: u32) -> u32
+pub fn shown_price(q: &[u32; 2048], exchange: usize, series: usize, side: u32) -> u32
     requires { ⌜ Within exchange series ⌝ }
     ensures { λ r. ⌜ ShownIs (now (q .entry)) exchange series side r ⌝ }
 {
@@ -89,7 +92,7 @@ fn shown_price(q: &[u32; 2048], exchange: usize, series: usize, side: u32) -> u3
     q[k + Quote::BID]
 }
 
-fn best_price(q: &[u32; 2048], n: usize, series: usize, side: u32) -> u32
+pub fn best_price(q: &[u32; 2048], n: usize, series: usize, side: u32) -> u32
     requires { ⌜ (n ≤ 8) × (series < 32) ⌝ }
     ensures { λ r. ⌜ BestIs (now (q .entry)) n series side r ⌝ }
 {
@@ -114,8 +117,8 @@ pub fn sent_order(q: &[u32; 2048], n: usize, o: Order) -> Sent
     Sent::Fine
 }
 
-// Why home has no duty, or 0: "First that holds."
-fn no_duty(q: &[u32; 2048], st: &[u32; 8], n: usize, home: usize, o: Order) -> u32
+// Why home has no duty to a received order, or 0, of what does not look at earlier orders: "First that holds."
+pub fn no_duty(q: &[u32; 2048], st: &[u32; 8], n: usize, home: usize, o: Order) -> u32
     requires { ⌜ (n ≤ 8) × Within home (o .series) ⌝ }
     ensures { λ r. ⌜ NoDutyIs (now (q .entry)) (now (st .entry)) n home o r ⌝ }
 {
@@ -136,7 +139,7 @@ fn no_duty(q: &[u32; 2048], st: &[u32; 8], n: usize, home: usize, o: Order) -> u
 }
 
 // "for P/A the lesser of both automatic sizes; for principal home's principal size"
-fn firm_size(n: usize, home: usize, sizes: &[u32; 16], o: Order) -> u32
+pub fn firm_size(n: usize, home: usize, sizes: &[u32; 16], o: Order) -> u32
     requires { ⌜ Headed n home × ((1 ≤ o .other) × (o .other ≤ n)) ⌝ }
     ensures { λ r. ⌜ FirmIs n home (now (sizes .entry)) o r ⌝ }
 {
@@ -146,27 +149,4 @@ fn firm_size(n: usize, home: usize, sizes: &[u32; 16], o: Order) -> u32
         return rows::lesser(sizes[ours], sizes[theirs]);
     }
     sizes[ours + 1]
-}
-
-// "Otherwise the whole order if not above the firm size, else at least the firm size."
-pub fn received_order(
-    q: &[u32; 2048],
-    st: &[u32; 8],
-    n: usize,
-    home: usize,
-    sizes: &[u32; 16],
-    o: Order,
-) -> Duty
-    requires { ⌜ Headed n home × ((o .series < 32) × ((1 ≤ o .other) × (o .other ≤ n))) ⌝ }
-    ensures { λ r. ⌜ DutyIs (now (q .entry)) (now (st .entry)) n home (now (sizes .entry)) o r ⌝ }
-{
-    let reason = no_duty(q, st, n, home, o);
-    if reason != 0 {
-        return Duty::NoDuty(reason);
-    }
-    let firm = firm_size(n, home, sizes, o);
-    if o.size <= firm {
-        return Duty::Whole(o.size);
-    }
-    Duty::AtLeast(firm)
 }

@@ -13,6 +13,7 @@ pub mod Naming
 pub mod Claims
 pub mod Again
 pub mod TradeLines
+pub mod Periods
 pub mod Giving
 pub mod OwnSheet
 pub mod ByTrade

@@ -7,7 +7,7 @@ use Rattle.rules.specs.Record.{fieldsAmong, fieldsOf, known, fitAll, inR
 use Rattle.rules.specs.History.{timeSoFar, count, nth, since, sentAt, tradeAt, satisfactionAt, beforeTrade, closingBegun, answers, names, withdraws, cancels, claimsFor, takesBack, takenBack, stillClaims}
 use Rattle.rules.specs.Journal.{responseBelongs, satisfactionBelongs, namingBelongs, cancellationBelongs, belongs, hasRoom, recordsFrom, journal, historyBytes, journalBytes}
 use Rattle.rules.specs.Prices.{noQuote, quotes, standing, statusOf, upTo, everyone, away, highest, lowest, bestBid, bestOffer}
-use Rattle.rules.specs.Verdicts.{crosses, locks, lowestNamed, homeQuote, sentOrder, firmSize, noDuty, receivedOrder, through, sideThrough, throughs, isBlock}
+use Rattle.rules.specs.Verdicts.{crosses, locks, lowestNamed, homeQuote, sentOrder, firmSize, noDuty, firstOrder, requotes, bestThere, tooSoon, stillLimited, orderIn, executesWhole, goesOn, periodOf, receivedOrder, through, sideThrough, throughs, isBlock}
 use Rattle.rules.specs.Reasons.{caseOf, senderQuote, senderSide, customers, backsAway, fillsAll, endsExcuse, excuses, hadSent, minutesFrom, timeToClaim, lateBy, sentAgainAfter, againLate, namesInTime, required, reason}
 use Rattle.rules.specs.Due.{limited, leastOfThree, claim, lineOf, linesOf, lines, ofTrade, customerFirmSize, capped, dueOf, due, fair, shareRule}
 use Rattle.rules.specs.OwnSheet.{lineBytes, sheetBytes, noLater, isNext, atFirst, giveOne, give, ownShares, filledAt, ownFill, ownLine, ownLines, ownSheet}
@@ -19,5 +19,5 @@ use Rattle.rules.specs.Writing.{into, lentAfter, writeHeader, writeRecor
 use Rattle.rules.specs.Only.{everyTo, everyFilling, same, filledSo, onlyFills}
 
 unfoldable pub everything : Unit {0}
-unfolding flatMap firstOf sum any all keep below _>>=_ demand above groups storedAt took number numbers bytesIn bytesOf bytesOfAll automatic principal frontInRange sizesInRange headerInRange headerAt headerBytes fieldsAmong fieldsOf known fitAll inRange quoteFits sound recordAt entryBytes timeSoFar count nth since sentAt tradeAt satisfactionAt beforeTrade closingBegun answers names withdraws cancels claimsFor takesBack takenBack stillClaims responseBelongs satisfactionBelongs namingBelongs cancellationBelongs belongs hasRoom recordsFrom journal historyBytes journalBytes noQuote quotes standing statusOf upTo everyone away highest lowest bestBid bestOffer crosses locks lowestNamed homeQuote sentOrder firmSize noDuty receivedOrder through sideThrough throughs isBlock caseOf senderQuote senderSide customers backsAway fillsAll endsExcuse excuses hadSent minutesFrom timeToClaim lateBy sentAgainAfter againLate namesInTime required reason limited leastOfThree claim lineOf linesOf lines ofTrade customerFirmSize capped dueOf due fair shareRule lineBytes sheetBytes noLater isNext atFirst giveOne give ownShares filledAt ownFill ownLine ownLines ownSheet sheetLines beside checkLine checkLines sharesOf checkTrade checkTrades checkSheet fillsOfTrade sentTotal filledTotal cancelledTotal unanswered pendingTotal totals dayTotals ascii digits decimal printedLine judged settled listed firstLine dayText refusalText printedAnswer printedDay into lentAfter writeHeader writeRecord readRecord rewriteJournal writeSheet writeDay everyTo everyFilling same filledSo onlyFills
+unfolding flatMap firstOf sum any all keep below _>>=_ demand above groups storedAt took number numbers bytesIn bytesOf bytesOfAll automatic principal frontInRange sizesInRange headerInRange headerAt headerBytes fieldsAmong fieldsOf known fitAll inRange quoteFits sound recordAt entryBytes timeSoFar count nth since sentAt tradeAt satisfactionAt beforeTrade closingBegun answers names withdraws cancels claimsFor takesBack takenBack stillClaims responseBelongs satisfactionBelongs namingBelongs cancellationBelongs belongs hasRoom recordsFrom journal historyBytes journalBytes noQuote quotes standing statusOf upTo everyone away highest lowest bestBid bestOffer crosses locks lowestNamed homeQuote sentOrder firmSize noDuty firstOrder requotes bestThere tooSoon stillLimited orderIn executesWhole goesOn periodOf receivedOrder through sideThrough throughs isBlock caseOf senderQuote senderSide customers backsAway fillsAll endsExcuse excuses hadSent minutesFrom timeToClaim lateBy sentAgainAfter againLate namesInTime required reason limited leastOfThree claim lineOf linesOf lines ofTrade customerFirmSize capped dueOf due fair shareRule lineBytes sheetBytes noLater isNext atFirst giveOne give ownShares filledAt ownFill ownLine ownLines ownSheet sheetLines beside checkLine checkLines sharesOf checkTrade checkTrades checkSheet fillsOfTrade sentTotal filledTotal cancelledTotal unanswered pendingTotal totals dayTotals ascii digits decimal printedLine judged settled listed firstLine dayText refusalText printedAnswer printedDay into lentAfter writeHeader writeRecord readRecord rewriteJournal writeSheet writeDay everyTo everyFilling same filledSo onlyFills
 everything = tt

@@ -61,7 +61,7 @@ judged h past e =
     let n = length past in
     if isQuote e && (quote e) .exchange == h .home then oneLine n "Q" (homeQuote h past (quote e))
     else if isSent e then oneLine n "S" (verdict (sentOrder h past (order e)) (count isSent past) 0)
-    else if isReceived e then oneLine n "R" (receivedOrder h past (order e))
+    else if isReceived e then oneLine n "R" (receivedOrder h past e)
     else if isTrade e then
     oneLine n "T" (verdict (count isTrade past) (length (throughs h past (trade e))) (bit (isBlock h past (trade e))))
     else []

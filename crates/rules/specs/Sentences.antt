@@ -1,6 +1,7 @@
 -- The papers' sentences about one named input, a row each: what the definitions say beside what the sentence says.
 -- proofs/Sentences.antt shows that each row's two sides are the same.
 use Prim.Native.Nat.{ℕ, _-_}
+use Prim.Native.String.{String}
 use mathlib.Core.List.{List, [], _∷_, _++_}
 use lib.ListN.{take, drop, replicate}
 use Rattle.rules.specs.Basics.{Answer, refused, ok}
@@ -96,6 +97,40 @@ abbrev pub claimed : Answer Journal → List ℕ
 claimed (refused n p) = []
 claimed (ok j) = claimsOf (ofTrade 0 (lines j)) ++ (due j 0 ∷ [])
 
+-- ---- document 02, d. Home bids 100 in series 0 and 1 and shows no offer. Exchange 2 sells 10 in series 0 by a principal order, which home has
+-- to execute whole. Then further quotes of home, and further orders.
+
+-- home's quote in a series: a bid for 50 contracts, and an offer of 50
+abbrev pub homeQuotes : ℕ → ℕ → ℕ → List ℕ
+homeQuotes series bid offer = 1 ∷ 0 ∷ 1 ∷ series ∷ bid ∷ 50 ∷ 0 ∷ offer ∷ 50 ∷ 0 ∷ []
+
+abbrev pub homeBids : ℕ → ℕ → List ℕ
+homeBids series price = 1 ∷ 0 ∷ 1 ∷ series ∷ price ∷ 50 ∷ 0 ∷ 0 ∷ 0 ∷ 0 ∷ []
+
+-- in series 0
+abbrev pub homeShowsNothing : List ℕ
+homeShowsNothing = 1 ∷ 0 ∷ 1 ∷ 0 ∷ 0 ∷ 0 ∷ 0 ∷ 0 ∷ 0 ∷ 0 ∷ []
+
+-- exchange x sells to home at 100 or at another price, by a principal order or a P/A order
+abbrev pub sellsAt : ℕ → ℕ → ℕ → ℕ → ℕ → List ℕ
+sellsAt price elapsed x series size = 6 ∷ elapsed ∷ 2 ∷ x ∷ series ∷ 2 ∷ price ∷ size ∷ []
+
+abbrev pub sells : ℕ → ℕ → ℕ → ℕ → List ℕ
+sells elapsed x series size = sellsAt 100 elapsed x series size
+
+abbrev pub sellsLinked : ℕ → ℕ → ℕ → ℕ → List ℕ
+sellsLinked elapsed x series size = 6 ∷ elapsed ∷ 1 ∷ x ∷ series ∷ 2 ∷ 100 ∷ size ∷ []
+
+abbrev pub bidding : List (List ℕ) → List (List ℕ)
+bidding more = homeBids 0 100 ∷ homeBids 1 100 ∷ more
+
+abbrev pub executedThen : List (List ℕ) → List (List ℕ)
+executedThen more = bidding (sells 0 2 0 10 ∷ more)
+
+-- what is printed of the two quotes, then the rest
+abbrev pub printsOrders : ℕ → String → List (List ℕ) → Example
+printsOrders n rest records = example n (printedDay (written records)) (ascii "event what a b c\n0 Q 0 0 0\n1 Q 0 0 0\n" ++ ascii rest)
+
 unfoldable pub sentences : List Example
 sentences =
     -- "An empty journal is refused 2 at 0."
@@ -181,4 +216,38 @@ sentences =
     -- "one that is not so cancelled": a third claim is 7, and so is a second after kind 8
     ∷ example 60 (refusal (journal (written (pricedAt 100 (sentAgain 0 0 ++ (claims 0 2 110 30 ∷ [])))))) (7 ∷ 48 ∷ [])
     ∷ example 61 (refusal (journal (written (startedAndPriced (cancels 0 0 4 ∷ claims 0 2 110 30 ∷ []))))) (7 ∷ 43 ∷ [])
+    -- document 02, d: "no duty for 15 seconds, up to and including 15,000 ms, reason 4", "in the class, any series"
+    ∷ printsOrders 62 "2 R 1 10 0\n3 R 0 0 4\n" (executedThen (sells 15_000 2 1 5 ∷ []))
+    -- "After the 15 seconds, up to and including 60,000 ms .. answer 2 with the lesser of its size and our principal size"
+    ∷ printsOrders 63 "2 R 1 10 0\n3 R 2 5 0\n" (executedThen (sells 15_001 2 1 5 ∷ []))
+    ∷ printsOrders 64 "2 R 1 10 0\n3 R 2 10 0\n" (executedThen (sells 15_001 2 0 11 ∷ []))
+    ∷ printsOrders 65 "2 R 1 10 0\n3 R 2 5 0\n" (executedThen (sells 60_000 2 0 5 ∷ []))
+    ∷ printsOrders 66 "2 R 1 10 0\n3 R 1 5 0\n" (executedThen (sells 60_001 2 0 5 ∷ []))
+    -- "It starts no new period": of all of the order at the last millisecond, and one later an order is a first one
+    ∷ printsOrders 67 "2 R 1 10 0\n3 R 2 5 0\n4 R 1 5 0\n" (executedThen (sells 60_000 2 0 5 ∷ sells 1 2 0 5 ∷ []))
+    -- "The exception: a later home quote gave another price .. and a price stands there now that is the best"; best or not
+    ∷ printsOrders 68 "2 R 1 10 0\n3 Q 0 0 0\n4 R 1 5 0\n" (executedThen (homeBids 0 101 ∷ sells 0 2 1 5 ∷ []))
+    ∷ printsOrders 69 "2 R 1 10 0\n4 Q 0 0 0\n5 R 0 0 4\n" (executedThen (bids 3 102 5 ∷ homeBids 0 101 ∷ sells 0 2 1 5 ∷ []))
+    -- "or none": no price stands there, then the old one again
+    ∷ printsOrders 70 "2 R 1 10 0\n3 Q 0 0 0\n4 R 0 0 4\n" (executedThen (homeShowsNothing ∷ sells 0 2 1 5 ∷ []))
+    ∷ printsOrders 71 "2 R 1 10 0\n3 Q 0 0 0\n4 Q 0 0 0\n5 R 1 5 0\n" (executedThen (homeShowsNothing ∷ homeBids 0 100 ∷ sells 0 2 1 5 ∷ []))
+    -- "only while no such later quote has come, best or not"
+    ∷ printsOrders 72 "2 R 1 10 0\n4 Q 0 0 0\n5 R 1 5 0\n" (executedThen (bids 3 102 5 ∷ homeBids 0 101 ∷ sells 15_001 2 1 5 ∷ []))
+    -- "another price": not the same once more; "a later home quote": not an earlier one; "on the side .. in its series": no other
+    ∷ printsOrders 73 "2 R 1 10 0\n3 Q 0 0 0\n4 R 0 0 4\n" (executedThen (homeBids 0 100 ∷ sells 0 2 1 5 ∷ []))
+    ∷ printsOrders 74 "2 Q 0 0 0\n3 Q 0 0 0\n4 R 1 10 0\n5 R 0 0 4\n" (bidding (homeBids 0 99 ∷ homeBids 0 100 ∷ sells 0 2 0 10 ∷ sells 0 2 1 5 ∷ []))
+    ∷ printsOrders 75 "2 R 1 10 0\n3 Q 0 0 0\n4 Q 0 0 0\n5 R 0 0 4\n" (executedThen (homeQuotes 0 100 120 ∷ homeBids 1 101 ∷ sells 0 2 1 5 ∷ []))
+    -- "A later whole execution of an order judged as a first one starts a new period in the old one's place."
+    ∷ printsOrders 76 "2 R 1 10 0\n3 R 1 5 0\n4 R 0 0 4\n5 R 2 5 0\n" (executedThen (sells 60_001 2 0 5 ∷ sells 15_000 2 0 5 ∷ sells 1 2 0 5 ∷ []))
+    ∷ printsOrders 77 "2 R 1 10 0\n3 Q 0 0 0\n4 R 1 5 0\n5 R 0 0 4\n" (executedThen (homeBids 0 101 ∷ sells 10_000 2 1 5 ∷ sells 10_000 2 1 5 ∷ []))
+    -- "that we had to execute whole": one above the firm size begins none, and leaves the one that stands
+    ∷ printsOrders 78 "2 R 2 10 0\n3 R 1 10 0\n" (bidding (sells 0 2 0 11 ∷ sells 0 2 0 10 ∷ []))
+    ∷ printsOrders 79 "2 R 1 10 0\n3 Q 0 0 0\n4 R 2 10 0\n5 R 1 5 0\n" (executedThen (homeBids 0 101 ∷ sells 0 2 1 11 ∷ sells 0 2 1 5 ∷ []))
+    -- "from the same sender"; "P/A orders stay as they are", within a period and before one
+    ∷ printsOrders 80 "2 R 1 10 0\n3 R 1 10 0\n4 R 1 10 0\n" (executedThen (sells 0 3 0 10 ∷ sellsLinked 0 2 0 10 ∷ []))
+    ∷ printsOrders 81 "2 R 1 10 0\n3 R 1 10 0\n" (bidding (sellsLinked 0 2 0 10 ∷ sells 0 2 0 10 ∷ []))
+    -- "Reason 4 and this answer are judged after 1, 2 and 3.": 1 stays, and in the place of either answer
+    ∷ printsOrders 82 "2 R 1 10 0\n3 R 0 0 1\n4 R 0 0 1\n" (executedThen (sellsAt 101 15_000 2 0 5 ∷ sellsAt 101 1 2 0 5 ∷ []))
+    ∷ printsOrders 83 "2 R 1 10 0\n4 R 0 0 2\n5 R 0 0 2\n" (executedThen (bids 3 101 5 ∷ sells 15_000 2 0 5 ∷ sells 1 2 0 5 ∷ []))
+    ∷ printsOrders 84 "2 R 1 10 0\n4 R 0 0 3\n5 R 0 0 3\n" (executedThen ((2 ∷ 0 ∷ 1 ∷ 1 ∷ []) ∷ sells 15_000 2 0 5 ∷ sells 1 2 0 5 ∷ []))
     ∷ []

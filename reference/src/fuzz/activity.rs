@@ -84,6 +84,8 @@ pub struct Activity<'c> {
     pub level: u32,
     /// The away exchange with the least automatic size.
     pub(super) least: u32,
+    /// Home's principal size.
+    pub(super) principal: u32,
     /// How many of a hundred trades come from another exchange's linkage order.
     pub initiated: usize,
     /// How many of a hundred Satisfaction Orders are priced as a block's, beside those that are by chance.
@@ -128,6 +130,7 @@ impl<'c> Activity<'c> {
             series,
             level,
             least: away_with_least_size(header),
+            principal: header[2 + 2 * header[0] as usize],
             initiated: 25,
             as_block: 0,
             shown: [[[0; 2]; 9]; 32],
@@ -194,7 +197,7 @@ impl<'c> Activity<'c> {
     }
 
     /// Milliseconds until the next record; never past the day.
-    fn pause(&mut self) -> u32 {
+    pub(super) fn pause(&mut self) -> u32 {
         let milliseconds = match self.chance.below(24) {
             0..=12 => 0,
             13..=17 => self.chance.between(1, 1_000),
@@ -258,12 +261,17 @@ impl<'c> Activity<'c> {
 
     /// A quote with this size and these customer contracts on each side that is shown.
     fn quote_held(&mut self, exchange: u32, series: u32, prices: [u32; 2], size: u32, held: u32) {
+        let milliseconds = self.pause();
+        self.quote_after(milliseconds, exchange, series, prices, size, held);
+    }
+
+    /// The same after so long.
+    pub(super) fn quote_after(&mut self, ms: u32, exchange: u32, series: u32, prices: [u32; 2], size: u32, held: u32) {
         let mut fields = vec![exchange, series];
         for price in prices {
             fields.extend(if price == 0 { [0, 0, 0] } else { [price, size, held] });
         }
-        let milliseconds = self.pause();
-        self.add(1, milliseconds, &fields);
+        self.add(1, ms, &fields);
         self.shown[series as usize][exchange as usize] = prices;
     }
 
@@ -356,6 +364,11 @@ impl<'c> Activity<'c> {
     /// Whether an exchange shows a price.
     pub(super) fn shows(&self, series: u32, exchange: u32) -> bool {
         self.shown[series as usize][exchange as usize] != [0, 0]
+    }
+
+    /// Home's bid and offer.
+    pub(super) fn home_shows(&self, series: u32) -> [u32; 2] {
+        self.shown[series as usize][self.home as usize]
     }
 
     /// Whether an order of this exchange for this trade was cancelled as no block.

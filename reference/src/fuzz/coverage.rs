@@ -1,6 +1,7 @@
 //! What the questions of a run have reached, by the right answers.
 
 use super::cancelled::{self, Cancelled};
+use super::followed;
 use super::sent_again::{self, SentAgain};
 use super::sheets::{accepted_header, desk_after};
 use crate::ask::{Answer, Question, op, word_at};
@@ -19,7 +20,7 @@ use std::ops::RangeInclusive;
 /// All that a run should reach beside the numbered ones.
 const WANTED: &str = "
     Q clear|Q locked, home's bid|Q locked, home's offer|Q crossed, home's bid|Q crossed, home's offer
-    R none, reason 1|R none, reason 2|R none, reason 3|R whole|R at least|T block|block with a claim
+    R none, reason 1|R none, reason 2|R none, reason 3|R none, reason 4|R whole|R at least|T block|block with a claim
     trade above firm size, shared out|trade above firm size, claims within it
     trade within firm size, claims above it
     journal with 128 trades|journal with 256 sent orders|journal with 512 Satisfaction Orders
@@ -59,6 +60,7 @@ fn wanted() -> impl Iterator<Item = String> {
         .chain(WANTED.split(['|', '\n']).map(|what| what.trim().to_string()))
         .chain(cancelled::wanted())
         .chain(sent_again::wanted())
+        .chain(followed::wanted())
         .filter(|what| !what.is_empty())
 }
 
@@ -146,7 +148,10 @@ impl Coverage {
         match (question.op, answer.no) {
             (op::CHECK, 0) => self.note_good_sheet(question),
             (op::CHECK, 24) => self.note_fill_above_claim(question, answer),
-            (op::DAY, 0) => self.note_list(&answer.bytes),
+            (op::DAY, 0) => {
+                self.note_list(&answer.bytes);
+                self.count_all(followed::reached(&question.a));
+            }
             (op::WRITE_RECORD | op::READ_RECORD, _) => self.note_record_alone(question, answer),
             _ => {}
         }

@@ -7,7 +7,7 @@ use crate::record::kind;
 
 /// Adds the record with one thing wrong, or what is wrong only beside the records before it.
 pub fn add_faulty(day: &mut Activity, kind: u32, milliseconds: u32, fields: &[u32]) {
-    match day.chance.below(13) {
+    match day.chance.below(14) {
         0 => {
             let unknown = values::unknown_kind(day.chance);
             day.add_as_is(unknown, milliseconds, fields);
@@ -19,9 +19,9 @@ pub fn add_faulty(day: &mut Activity, kind: u32, milliseconds: u32, fields: &[u3
         2 => add_with_a_long_number(day, kind, milliseconds, fields),
         3 => add_unsound_quote(day, milliseconds),
         4 => add_unknown_or_twice(day, milliseconds),
-        5 => add_faulty_closing(day, milliseconds),
-        6 | 7 => add_faulty_cancellation(day),
-        8 | 9 => add_faulty_no_block(day),
+        5 | 6 => add_faulty_closing(day, milliseconds),
+        7 | 8 => add_faulty_cancellation(day),
+        9 | 10 => add_faulty_no_block(day),
         _ => {
             let mut fields = fields.to_vec();
             let field = day.chance.below(fields.len());
@@ -116,8 +116,8 @@ fn not_to_cancel(day: &mut Activity, order: usize, initiator: u32) -> (u32, u32)
     let closed: Vec<usize> = closed.chain([order]).collect();
     let (closed, away) = (day.chance.pick(&closed), day.away());
     let from = day.asked[order].from;
-    let another = day.chance.pick(&[day.home, from, from, away, away, 0, day.exchanges + 1]);
-    match day.chance.below(6) {
+    let another = day.chance.pick(&[day.home, from, from, away, away, away, away, 0, day.exchanges + 1]);
+    match day.chance.below(9) {
         0 => (unknown, initiator),
         1 | 2 => (closed as u32, day.asked[closed].initiator.max(1)),
         3 => (day.chance.pick(&[unknown, closed as u32]), another),

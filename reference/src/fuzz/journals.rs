@@ -66,12 +66,32 @@ pub fn journal_with_claims(chance: &mut Chance) -> Vec<u8> {
     day.bytes
 }
 
+/// Half of them days with orders that follow an initial execution, for questions about the list.
+pub fn journal_with_orders(chance: &mut Chance) -> Vec<u8> {
+    if chance.one_in(2) {
+        return journal(chance);
+    }
+    let header = values::header(chance);
+    let runs = 1 + chance.below(4);
+    let mut day = open(chance, &header);
+    if day.chance.percent(70) {
+        day.move_on();
+    }
+    for _ in 0..runs {
+        day.second_orders();
+        if day.chance.one_in(3) {
+            day.something();
+        }
+    }
+    day.bytes
+}
+
 pub fn journal(chance: &mut Chance) -> Vec<u8> {
     let day = chance.weighted(&[
-        (600, Day::Usual),
-        (180, Day::WithFault),
-        (70, Day::WithFaultyCancellation),
-        (110, Day::WithFaultyNoBlock),
+        (480, Day::Usual),
+        (200, Day::WithFault),
+        (110, Day::WithFaultyCancellation),
+        (130, Day::WithFaultyNoBlock),
         (110, Day::Damaged),
         (60, Day::OnlyHeader),
         (20, Day::Noise),
@@ -120,6 +140,7 @@ fn usual(chance: &mut Chance, until_fault: Option<usize>) -> Vec<u8> {
             0 | 1 => day.trade_around_ten(),
             2 => day.cancellations_near_close(),
             3 => day.send_again_near_close(),
+            4 => day.second_orders(),
             _ => day.something(),
         }
     }

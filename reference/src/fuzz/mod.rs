@@ -6,6 +6,8 @@ mod cancelling;
 pub mod chance;
 mod coverage;
 mod faults;
+mod followed;
+mod following;
 mod journals;
 mod no_block;
 mod questions;

@@ -26,6 +26,7 @@ pub fn question(seed: u64, number: u64) -> Question {
         op::WRITE_RECORD => write_record(chance),
         op::READ_RECORD => read_record(chance),
         op::CHECK => check(chance),
+        op::DAY => Question { op: asked, a: journals::journal_with_orders(chance), ..Question::default() },
         op::SHEET => Question { op: asked, a: journals::journal_with_claims(chance), ..Question::default() },
         0 => no_question(chance),
         _ => Question { op: asked, a: journals::journal(chance), ..Question::default() },

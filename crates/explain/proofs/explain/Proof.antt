@@ -5,6 +5,7 @@ use Rattle.explain.proofs.explain.Tie as tie
 use Rattle.explain.proofs.explain.Reads as reads
 use Rattle.explain.proofs.explain.Lts as lts
 use Rattle.explain.proofs.cancelled.read.Reads as read-reads
+use Rattle.explain.proofs.received.tell.Reads as received-tell-reads
 use Rattle.explain.proofs.tell.Reads as tell-reads
 use Rattle.header.proofs.read_header.Reads as read-header-reads
 use Rattle.os.proofs.fail.Reads as fail-reads
@@ -38,6 +39,9 @@ read-requires c κs = search (clerk-laws, needs)
 tell-requires : tie.Need-tell-requires
 tell-requires c κs = search (clerk-laws, needs)
 
+tell-requires-2 : tie.Need-tell-requires-2
+tell-requires-2 c κs = search (clerk-laws, needs)
+
 slice-aggregate-fail : tie.Need-slice-aggregate-fail
 slice-aggregate-fail c = search (clerk-laws, needs)
 
@@ -63,6 +67,7 @@ explain-spec =
     read-header-requires
     read-requires
     tell-requires
+    tell-requires-2
     slice-aggregate-fail
     fail-requires
     returns-2

@@ -10,6 +10,9 @@ is-home-requires c κs = search (judge-laws, needs)
 returns : tie.Need-returns
 returns c = search (judge-laws, needs)
 
+keep-requotes-requires : tie.Need-keep-requotes-requires
+keep-requotes-requires c κs = search (judge-laws, needs)
+
 quote-of-requires : tie.Need-quote-of-requires
 quote-of-requires c κs = search (judge-laws, needs)
 
@@ -36,9 +39,6 @@ sent-says-requires c κs = search (judge-laws, needs)
 
 returns-3 : tie.Need-returns-3
 returns-3 c = search (judge-laws, needs)
-
-order-of-requires-2 : tie.Need-order-of-requires-2
-order-of-requires-2 c κs = search (judge-laws, needs)
 
 received-order-requires : tie.Need-received-order-requires
 received-order-requires c κs = search (judge-laws, needs)
@@ -79,6 +79,7 @@ judge-spec =
     (tie.spec
     is-home-requires
     returns
+    keep-requotes-requires
     quote-of-requires
     home-quote-requires
     quote-says-requires
@@ -88,7 +89,6 @@ judge-spec =
     sent-order-requires
     sent-says-requires
     returns-3
-    order-of-requires-2
     received-order-requires
     duty-says-requires
     returns-4
