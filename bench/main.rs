@@ -1,4 +1,4 @@
-//! Times the exported functions of an archive beside the reference on full journals, in one run.
+//! Times the exported functions of an archive beside the reference on journals that the reference makes, in one run.
 
 use reference::refusal::Refusal;
 use reference::{day, journal, make, sheet, totals};

@@ -91,6 +91,14 @@ hint_pair() {
     [ "$number" -ne 20 ] || say "$sheet: this is a journal, and a sheet is asked for"
 }
 
+# hint_batch 'line N: refused R' : of a batch with fewer quotes than one, or more than it may have. A line of numbers is the line in the
+# text, kind, milliseconds and fields; a batch's second field is the count.
+hint_batch() {
+    [ "${1##* }" -eq 5 ] || return 0
+    count=$(awk -v line="${1%%:*}" 'NR > 1 && "line " $1 == line && $2 == 10 { print $5; exit }' "$work/numbers")
+    [ "${count:-1}" -ge 1 ] && [ "${count:-1}" -le 32 ] || say "${1%%:*}: a batch has 1 to 32 quotes, each on a line below it that begins with \"series\"; found $count"
+}
+
 hint_text() {
     [ ! -s "$work/text" ] || is_text "$work/text" || say "$text: this is no text; hasurenta decode makes one of a journal"
 }

@@ -1,10 +1,11 @@
-# The text form of a journal: a line for the header and one for each record, every value after its name. One table of names and one of
-# words serve both ways. With way=numbers a text becomes the lines of numbers that the program encode reads, each with its line number
-# in front and filled up to one length; with way=text the lines of numbers of the program decode become a text.
+# The text form of a journal: a line for the header and one for each record, every value after its name; below the line of a batch one
+# for each of its quotes. One table of names and one of words serve both ways. With way=numbers a text becomes the lines of numbers that
+# the program encode reads, each with its line number in front and filled up to one length; with way=text the lines of numbers of the
+# program decode become a text.
 
 BEGIN {
-    # a kind's place is its number, and - keeps the place of one that is not known
-    kinds = split("quote status trade sent response received satisfaction naming closing - cancellation", kind, " ")
+    # a kind's place is its number
+    kinds = split("quote status trade sent response received satisfaction naming closing batch cancellation", kind, " ")
     # "when" is "after" with milliseconds since the record before, or "at" with a clock time
     names["header"] = "home exchanges close sizes"
     names["quote"] = "when exchange series bid size customers offer size customers"
@@ -16,8 +17,12 @@ BEGIN {
     names["satisfaction"] = "when trade from price size"
     names["naming"] = "when claim exchange"
     names["closing"] = "when"
+    names["batch"] = "when exchange"
     names["cancellation"] = "when claim"
-    for (k = 1; k <= kinds; k++) if (kind[k] != "-") {
+    # a quote of a batch, on a line of its own
+    names["series"] = "series bid size customers offer size customers"
+    quote_numbers = split(names["series"], unused, " ")
+    for (k = 1; k <= kinds; k++) {
         number[kind[k]] = k
         known = known ", " kind[k]
     }
@@ -36,8 +41,9 @@ BEGIN {
     any_clock = "a clock time (0:00 to 23:59:59.999)"
     choices["close"] = any_clock
     most_exchanges = 8
-    most_fields = 8
-    line_length = 256
+    most_quotes = 32
+    most_records = 16384
+    line_length = 4096
 }
 
 # What has a capital in the table may be written without it.
@@ -63,21 +69,26 @@ function told(name, n) {
     return name " " ((name, n) in word_of ? word_of[name, n] : n)
 }
 
+# The names of a line, each with its number, from a field on.
 function spelled(what, first,    i, n, name, text) {
     n = split(names[what], name, " ")
-    text = what
     for (i = 1; i <= n; i++) text = text " " told(name[i], $(first + i - 1))
     return text
 }
 
 way == "text" && NR == 1 {
-    text = spelled("header", 1)
+    text = "header" spelled("header", 1)
     for (i = 5; i <= NF; i++) text = text " " $i
     print text
     next
 }
 
-way == "text" { print spelled(kind[$1], 2); next }
+# Kind, milliseconds, fields; those of a batch are its exchange, how many quotes it has, and their numbers.
+way == "text" {
+    print kind[$1] spelled(kind[$1], 2)
+    if (kind[$1] == "batch") for (i = 0; i < $4; i++) print "   " spelled("series", 5 + i * quote_numbers)
+    next
+}
 
 # ---- from text to numbers
 
@@ -117,7 +128,9 @@ function midnight_to(i,    part) {
     return figures(part[1]) * hour + figures(part[2]) * minute + figures(part[3]) * second + figures(substr(part[4] "000", 1, 3))
 }
 
-function put(row) { printf "%-" (line_length - 1) "s\n", NR " " row }
+# A record takes two bytes or more, so no journal has room for as many: the program refuses the text before it comes to a line that was
+# not put.
+function put(line, row) { if (puts++ <= most_records) printf "%-" (line_length - 1) "s\n", line " " row }
 
 # Milliseconds since the record before. Where the day's time has passed, the program refuses the line by which it did; a clock time
 # after that line is held against nothing.
@@ -145,10 +158,9 @@ function unexpected(i, wanted) {
     return fault(i > NF ? "expected " wanted ", found the end of the line" : "unknown word " found(i) ", expected " wanted)
 }
 
-# The numbers from field 3 on, each after its name; "sizes" is a name with as many as follow.
-function numbers_of(what,    i, n, name, at, row) {
+# The numbers of a line, each after its name, the first of which is field at; "sizes" is a name with as many as follow.
+function numbers_of(what, at,    i, n, name, row) {
     n = split(names[what], name, " ")
-    at = 2
     for (i = 1; i <= n; i++) {
         if (name[i] == "when") {
             if ($at != "after" && $at != "at") return unexpected(at, "\"after\" or \"at\"")
@@ -173,6 +185,13 @@ function sizes(first,    i, n, row) {
     return row
 }
 
+# A batch ends where another record begins, or with the text.
+function end_batch() {
+    if (batch_line) put(batch_line, batch quotes " " quoted)
+    batch_line = quotes = 0
+    quoted = ""
+}
+
 { sub(/\r$/, ""); sub(/#.*/, "") }
 
 NF == 0 { next }
@@ -180,18 +199,32 @@ NF == 0 { next }
 $1 == "header" {
     if (headed) fault("a second header")
     headed = 1
-    put(numbers_of("header"))
+    above = $1
+    put(NR, numbers_of("header", 2))
     next
 }
 
-!($1 in number) { fault("unknown word " found(1) ", expected a kind: header" known) }
+!($1 in number) && $1 != "series" { fault("unknown word " found(1) ", expected " (batch_line ? "\"series\" or " : "") "a kind: header" known) }
 
 !headed { fault("expected the header first, found " found(1)) }
 
+# How many quotes a batch may have is the record writer's to judge: it is given their count, and no more of them than there may be.
+$1 == "series" {
+    if (!batch_line) fault("expected a batch above \"series\", found \"" above "\"")
+    row = numbers_of("series", 1)
+    if (++quotes <= most_quotes) quoted = quoted row
+    next
+}
+
 {
-    row = number[$1] " " numbers_of($1)
-    for (n = split(row, unused, " "); n < most_fields + 2; n++) row = row "0 "
-    put(row)
+    end_batch()
+    above = $1
+    row = number[$1] " " numbers_of($1, 2)
+    if ($1 != "batch") put(NR, row)
+    else {
+        batch_line = NR
+        batch = row
+    }
 }
 
 END {
@@ -201,4 +234,5 @@ END {
         exit 1
     }
     if (faulty) exit 1
+    end_batch()
 }

@@ -76,7 +76,7 @@ for text in examples/*.day; do
     expect 0 check - "$sheet" <"$journal"; wrote accepted
     expect 0 check "$journal" - <"$sheet"; wrote accepted
 done
-[ "$tried" -ge 156 ] || { what=examples; fail "only $tried tries"; }
+[ "$tried" -ge 168 ] || { what=examples; fail "only $tried tries"; }
 
 d=$work/day-d.journal
 printf '\001\002\200\320\273\033\012\012\012\012\001\350\007\002\000\156\024\017\170\024\000\003\000\000\144\014\000\000\000\000\007\350\007\000\002\156\024' >"$work/bytes"
@@ -146,7 +146,15 @@ refused_journal() { # REFUSAL PLACE OCTAL : a record after a header
 tenth='the record that starts at byte 10'
 refused_journal 'refused 2 at 12' 'byte 12 of the journal' '\002\000\200\000'
 refused_journal 'refused 4 at 10' "$tenth" '\144\000'
-refused_journal 'refused 4 at 10' "$tenth" '\012\000\000'
+refused_journal 'refused 4 at 10' "$tenth" '\014\000\000'
+# A batch: its count is judged before its quotes are read, which are read before they are judged.
+refused_journal 'refused 2 at 13' 'byte 13 of the journal' '\012\000\002'
+refused_journal 'refused 5 at 10' "$tenth" '\012\000\002\000'
+refused_journal 'refused 5 at 10' "$tenth" '\012\000\002\041'
+refused_journal 'refused 2 at 14' 'byte 14 of the journal' '\012\000\000\040'
+refused_journal 'refused 2 at 27' 'byte 27 of the journal' '\012\000\003\002\000\001\001\000\001\001\000\040\002\001\000\001\001\200\000'
+refused_journal 'refused 6 at 10' "$tenth" '\012\000\002\002\000\001\001\000\001\001\000\040\001\001\000\002\001\000'
+refused_journal 'refused 5 at 10' "$tenth" '\012\000\002\002\040\001\001\000\002\001\000\000\001\001\000\001\001\000'
 refused_journal 'refused 5 at 10' "$tenth" '\002\000\003\000'
 refused_journal 'refused 6 at 10' "$tenth" '\001\000\002\000\001\001\000\001\001\000'
 refused_journal 'refused 7 at 10' "$tenth" '\005\000\000\000'
@@ -221,7 +229,7 @@ faulty 'line 2: expected a number after "series", found "zero"' "$h\nquote after
 faulty 'line 2: expected a number after "after", found the end of the line' "$h\nstatus after"
 faulty 'line 2: expected "state", found the end of the line' "$h\nstatus after 0 exchange 2\n"
 faulty 'line 3: unknown word "now", expected the end of the line' "$h\n# so far good\nstatus after 0 exchange 2 state 1 now\n"
-faulty 'line 2: unknown word "qoute", expected a kind: header, quote, status, trade, sent, response, received, satisfaction, naming, closing, cancellation' "$h\nqoute after 0\n"
+faulty 'line 2: unknown word "qoute", expected a kind: header, quote, status, trade, sent, response, received, satisfaction, naming, closing, batch, cancellation' "$h\nqoute after 0\n"
 faulty 'line 1: expected the header first, found "status"' 'status after 0 exchange 2 state 1\n'
 faulty 'line 3: a second header' "$h\n\n$h\n"
 faulty 'line 1: expected 4 sizes, found 3' 'header home 1 exchanges 2 close 57600000 sizes 10 10 10\n'
@@ -273,9 +281,33 @@ faulty 'line 6: refused 7' "$h\n$t 2 delay 0\n$p\n$c 0\n$f\n$f\n"
 faulty 'line 6: refused 7' "$h\n$t 2 delay 0\n$p\n$c 0\n$p\n$c 1\n"
 faulty 'line 2: unknown word "order", expected "claim"' "$h\ncancellation after 0 order 0\n"
 faulty 'line 2: unknown word "exchange", expected the end of the line' "$h\ncancellation after 0 claim 0 exchange 2\n"
-faulty 'line 2: unknown word "-", expected a kind: header, quote, status, trade, sent, response, received, satisfaction, naming, closing, cancellation' "$h\n- after 0\n"
+# A batch: 1 to 32 quotes on the lines below it, and where there are more, or none, how many were found is said.
+b='batch after 0 exchange 2'
+quotes() { awk -v n="$1" 'BEGIN { while (n-- > 0) printf "    series 0 bid 110 size 20 customers 15 offer 120 size 20 customers 0\\n" }'; }
+printf '\012\000\002\001\000\156\024\017\170\024\000' >"$work/bytes"
+# shellcheck disable=SC2059
+printf "$h\n$b\n$(quotes 1)" >"$work/text"
+expect 0 encode "$work/text"; said_nothing; cp "$work/out" "$work/journal"
+cat "$work/header" "$work/bytes" >"$work/both"
+expect 0 encode <"$work/text"; wrote_file "$work/both"
+expect 0 day "$work/journal"; wrote 'event what a b c'
+for count in 0 33 20000; do
+    # shellcheck disable=SC2059
+    printf "$h\n$q\n$b\n$(quotes $count)$q\n" >"$work/text"
+    expect 1 encode "$work/text"; wrote_nothing
+    said_lines 'hasurenta: line 3: refused 5' "hasurenta: line 3: $(words 5)" "hasurenta: line 3: a batch has 1 to 32 quotes, each on a line below it that begins with \"series\"; found $count"
+done
+faulty 'line 3: refused 5' "$h\n$q\nbatch after 0 exchange 3\n$(quotes 32)"
+faulty 'line 3: refused 6' "$h\n$q\n$b\n$(quotes 1)series 0 bid 120 size 1 customers 0 offer 120 size 1 customers 0\n"
+faulty 'line 5: refused 7' "$h\n$b\n$(quotes 2)response after 0 order 0 filled 0\n"
+faulty 'line 4: unknown word "serie", expected "series" or a kind: header, quote, status, trade, sent, response, received, satisfaction, naming, closing, batch, cancellation' "$h\n$b\n$(quotes 1)serie 1\n"
+faulty 'line 3: expected a batch above "series", found "quote"' "$h\n$q\n$(quotes 1)"
+faulty 'line 2: unknown word "-", expected a kind: header, quote, status, trade, sent, response, received, satisfaction, naming, closing, batch, cancellation' "$h\n- after 0\n"
 awk -v h="$h" -v q="$q" 'BEGIN { print h; for (i = 0; i < 3000; i++) print q }' >"$work/text"
 expect 1 encode "$work/text"; wrote_nothing; named 'refused 1'
+# More lines than any journal has records.
+awk -v h="$h" 'BEGIN { print h; for (i = 0; i < 20000; i++) print "closing after 0" }' >"$work/text"
+expect 1 encode "$work/text"; wrote_nothing; said 'line 16381: refused 1'
 printf '  header\thome 01 exchanges 2 close 57600000 sizes 10 10 10 0000000000010 # all in one line\r\n\r\n' >"$work/text"
 expect 0 encode "$work/text"; wrote_file "$work/header"
 

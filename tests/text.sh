@@ -1,7 +1,8 @@
 #!/bin/sh
-# The text form of a journal. Clock times and words give the bytes that milliseconds and numbers give; what decode writes encodes to
-# the same bytes; a time that goes back, what is no clock time and what is no word of its name are refused, with the words that they
-# must have. What examples/README.md shows of the text is held to the same.
+# The text form of a journal. Clock times and words give the bytes that milliseconds and numbers give; a batch's quotes are the lines
+# below it; what decode writes encodes to the same bytes; a time that goes back, what is no clock time, what is no word of its name and
+# a quote that belongs to no batch are refused, with the words that they must have. What examples/README.md shows of the text is held
+# to the same.
 set -u
 cd "$(dirname "$0")/.." || exit 1
 work=$(mktemp -d) || exit 1
@@ -50,6 +51,37 @@ naming claim 0 exchange 3
 closing
 cancellation claim 0
 END_OF_LINES
+
+# ---- a batch: its quotes on the lines below it, whatever space, empty lines and comments there are
+one='series 31 bid 0 size 0 customers 0 offer 1000000 size 100000 customers 7'
+two='series 0 bid 5 size 9 customers 0 offer 6 size 9 customers 9'
+same "batch after 60000 exchange 3
+$one
+$two" "batch at 09:31 exchange 3 # two quotes
+    $one
+
+# the second
+	 $two  # the last"
+same "batch after 0 exchange 2
+$two
+batch after 0 exchange 2
+$one
+status after 0 exchange 2 state 1" "batch at 9:30 exchange 2
+  $two
+batch at 9:30 exchange 2
+  $one
+status at 9:30 exchange 2 state non-firm"
+# As many as there may be, one series many times.
+quotes() { awk -v n="$1" -v quote="${2:-$two}" 'BEGIN { while (n-- > 0) print "    " quote }'; }
+for count in 1 2 31 32; do
+    what="a batch of $count"
+    tried=$((tried + 1))
+    printf '%s\nbatch at 09:30:00.000 exchange 3\n%s\n' "$h" "$(quotes $count)" >"$work/words"
+    encode "$work/words"
+    decode "$work/words.journal"
+    tail -n +2 "$work/words" >"$work/below"
+    tail -n +2 "$work/words.journal.text" | cmp -s - "$work/below" || fail 'decode does not write it as it was'
+done
 
 # ---- each way to write a clock time
 while read -r ms clock; do
@@ -153,7 +185,7 @@ for text in examples/*.day; do
 done
 
 # The journals of the vectors that are accepted, as octal escapes.
-paste -d ' ' tests/vectors/d.questions tests/vectors/d.answers | awk '
+paste -d ' ' tests/vectors/e.questions tests/vectors/e.answers | awk '
     BEGIN { for (i = 0; i < 256; i++) octal[sprintf("%02x", i)] = sprintf("\\%03o", i) }
     $1 == "journal" && $3 == "accepted" {
         bytes = ""
@@ -171,7 +203,7 @@ while IFS= read -r bytes; do
 done <"$work/journals"
 what='tests/vectors'
 [ "$accepted" -ge 75 ] || fail "only $accepted accepted journals"
-for kind in header quote status trade sent response received satisfaction naming closing cancellation; do
+for kind in header quote status trade sent response received satisfaction naming closing batch cancellation; do
     grep -q "^$kind " "$work/texts" || fail "no accepted journal has a line of kind $kind"
 done
 
@@ -269,6 +301,124 @@ status at 09:30 exchange none state firm"
 faulty 'line 5: unknown word "prize", expected "price"' "$start
 trade at 09:30 series 0 prize 100"
 
+# A batch: what stands in its line and in those below it, and which line is named.
+kinds='header, quote, status, trade, sent, response, received, satisfaction, naming, closing, batch, cancellation'
+b='batch at 09:30 exchange 2'
+faulty 'line 5: expected "exchange", found the end of the line' "$start
+batch at 09:30"
+faulty 'line 5: unknown word "series", expected the end of the line' "$start
+$b $one"
+faulty 'line 5: unknown word "count", expected the end of the line' "$start
+$b count 2
+$one
+$two"
+faulty 'line 7: unknown word "serie", expected "series" or a kind: '"$kinds" "$start
+$b
+$one
+serie 0 bid 5"
+faulty 'line 7: unknown word "serie", expected a kind: '"$kinds" "$start
+$b
+status at 09:30 exchange 2 state firm
+serie 0 bid 5"
+faulty 'line 6: expected a number after "series", found "all"' "$start
+$b
+series all bid 5"
+faulty 'line 6: expected a number after "series", found the end of the line' "$start
+$b
+series"
+faulty 'line 7: expected a number after "bid", found "none"' "$start
+$b
+$one
+    series 0 bid none size 0 customers 0 offer 6 size 9 customers 9"
+faulty 'line 7: unknown word "after", expected "bid"' "$start
+$b
+$one
+    series 0 after 0 bid 5 size 9 customers 0 offer 6 size 9 customers 9"
+faulty 'line 7: unknown word "bid", expected "size"' "$start
+$b
+$one
+    series 0 bid 5 bid 5 size 9 customers 0 offer 6 size 9 customers 9"
+faulty 'line 7: expected "customers", found the end of the line' "$start
+$b
+$one
+    series 0 bid 5 size 9 customers 0 offer 6 size 9"
+faulty 'line 7: unknown word "series", expected the end of the line' "$start
+$b
+$one
+    $two $two"
+faulty 'line 2: expected a batch above "series", found "header"' "$h
+    $two"
+faulty 'line 8: expected a batch above "series", found "status"' "$start
+$b
+$one
+status at 09:30 exchange 2 state firm
+    $two"
+faulty 'line 1: expected the header first, found "series"' "$two"
+faulty 'line 1: expected the header first, found "batch"' "$b
+$two"
+faulty 'line 7: a second header' "$start
+$b
+$one
+$h"
+# What cannot be read is said first, wherever it stands; of what can, the batch's line is named, for the first of its quotes that is refused.
+unfit='series 0 bid 6 size 9 customers 0 offer 6 size 9 customers 9'
+beyond='series 32 bid 5 size 9 customers 0 offer 6 size 9 customers 9'
+faulty 'line 8: unknown word "prize", expected "bid"' "$start
+$b
+$unfit
+$beyond
+series 0 prize 5"
+faulty 'line 5: refused 6' "$start
+$b
+$two
+$unfit
+$beyond"
+faulty 'line 5: refused 5' "$start
+$b
+$two
+$beyond
+$unfit"
+for bad in 'series 0 bid 1000001 size 9 customers 0 offer 0 size 0 customers 0' 'series 0 bid 5 size 100001 customers 0 offer 0 size 0 customers 0' 'series 268435456 bid 5 size 9 customers 0 offer 0 size 0 customers 0'; do
+    faulty 'line 5: refused 5' "$start
+$b
+$one
+$bad"
+done
+for bad in 0 4; do
+    faulty 'line 5: refused 5' "$start
+batch at 09:30 exchange $bad
+$unfit"
+done
+faulty 'line 5: refused 5' "$start
+batch after 52200000 exchange 2
+$unfit"
+faulty 'line 8: refused 5' "$start
+$b
+$one
+$two
+batch at 09:30 exchange 4
+$two"
+faulty 'line 7: refused 5' "$start
+$b
+$one
+status at 09:30 exchange 4 state firm"
+# How many quotes there are is judged before they are.
+faulty 'line 5: refused 5' "$start
+$b"
+faulty 'line 5: refused 5' "$start
+$b
+status at 09:30 exchange 2 state firm"
+for count in 33 34 1000; do
+    faulty 'line 5: refused 5' "$start
+$b
+$(quotes $count "$unfit")"
+    faulty "line 5: a batch has 1 to 32 quotes, each on a line below it that begins with \"series\"; found $count" "$start
+$b
+$(quotes $count)"
+done
+faulty 'line 5: a batch has 1 to 32 quotes, each on a line below it that begins with "series"; found 0' "$start
+$b"
+
 # ---- what is shown
 what='the comment of examples/day-d.day'
 tried=$((tried + 1))
@@ -280,8 +430,8 @@ encode "$work/numbers"
 
 what='the lines of examples/README.md'
 tried=$((tried + 1))
-grep -E '^    (header|quote|status|trade|sent|response|received|satisfaction|naming|closing|cancellation) ' examples/README.md | sed 's/^ *//' >"$work/shown"
-[ "$(cut -d ' ' -f 1 "$work/shown" | sort -u | wc -l)" -eq 11 ] || fail 'not a line of each kind'
+grep -E '^    (header|quote|status|trade|sent|response|received|satisfaction|naming|closing|batch|    series|cancellation) ' examples/README.md | sed 's/^    //' >"$work/shown"
+[ "$(sed 's/^ *//' "$work/shown" | cut -d ' ' -f 1 | sort -u | wc -l)" -eq 13 ] || fail 'not a line of each kind'
 encode "$work/shown"
 decode "$work/shown.journal"
 cmp -s "$work/shown" "$work/shown.journal.text" || fail 'not as decode writes them'

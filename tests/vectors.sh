@@ -1,7 +1,8 @@
 #!/bin/sh
 # The vectors stand twice: as lines in tests/vectors, and as the bytes that `ask` is run on (crates/ask/stdin) and held to
 # (crates/ask/stdout). Each line is turned into `ask`'s questions, its answer into their answers, and both must be the next bytes of
-# those files: no line without its bytes, and no byte without its line. tests/vectors/README.md says which is which.
+# those files: no line without its bytes, but a batch given more fields than `ask` takes, and no byte without its line.
+# tests/vectors/README.md says which is which.
 set -eu
 cd "$(dirname "$0")/.."
 work=$(mktemp -d)
@@ -119,26 +120,35 @@ WORK=$work awk '
     function counted(kind, given) {
         if ((kind in fields) && given != fields[kind]) unfit("kind " kind " has " fields[kind] " fields, not " given)
     }
-    # A kind that is not known may be given any number of fields; `ask` takes eight.
-    function asked(kind, eighth,    last) {
-        for (last = words; last > eighth && !(kind in fields); last--) number(w[last])
-        return last
+    # Three numbers and the fields, of which there is room for eight at least.
+    function places(given) { return 3 + (given > fewest ? given : fewest) }
+    # Of a record that is read back: a batch has as many fields as its count says.
+    function fields_read(given) {
+        counted(s[3], given)
+        if (s[3] == batch && given != 2 + 7 * number(s[6])) unfit("a batch of " s[6] " has " given " fields")
+        return places(given)
     }
     function read_record(a, b,    out) {
         ok(0)
-        if (!no) {
-            counted(s[3], spoken - 4)
-            out = row(s, 2, spoken, 11)
-        }
+        if (!no) out = row(s, 2, spoken, fields_read(spoken - 4))
         ask(op["rrecord"], 0, a, b, no, place, out)
+    }
+    # A batch may be given any number of fields up to the most that `ask` takes: a line with more has no question. So may a kind that
+    # is not known, and of those `ask` is given eight.
+    function write_record(bar,    kind, given, last) {
+        kind = w[bar + 2]
+        given = words - bar - 3
+        counted(kind, given)
+        for (last = words; last > bar + 3 + fewest && !(kind in fields); last--) number(w[last])
+        if (kind != batch) ask(op["wrecord"], number(w[2]), head(3, bar - 1) row(w, bar + 1, last, places(0)), "", no, place, written())
+        else if (given <= most_fields) ask(op["wrecord"], number(w[2]), head(3, bar - 1) row(w, bar + 1, words, places(given)), "", no, place, written())
+        else { head(3, bar - 1); written(); unasked++ }
     }
     function of_numbers(    bar) {
         for (bar = 1; bar < words && w[bar] != "/"; bar++) continue
         if (w[1] == "wheader") ask(op["wheader"], number(w[2]), head(3, words), "", no, place, written())
-        else if (w[1] == "wrecord") {
-            counted(w[bar + 2], words - bar - 3)
-            ask(op["wrecord"], number(w[2]), head(3, bar - 1) row(w, bar + 1, asked(w[bar + 2], bar + 11), 11), "", no, place, written())
-        } else if (w[1] == "rrecord" && words == bar + 2) read_record(head(2, bar - 1) four(number(w[bar + 1])), raw(w[bar + 2]))
+        else if (w[1] == "wrecord") write_record(bar)
+        else if (w[1] == "rrecord" && words == bar + 2) read_record(head(2, bar - 1) four(number(w[bar + 1])), raw(w[bar + 2]))
         else unfit("not a question: " w[1])
     }
 
@@ -146,9 +156,12 @@ WORK=$work awk '
         for (i = 0; i < 256; i++) hex[i] = sprintf("%02x", i)
         for (i = 1; i < 128; i++) letter[hex[i]] = sprintf("%c", i)
         for (i = split("journal day sheet check totals wheader wrecord rrecord rewrite", names, " "); i > 0; i--) op[names[i]] = i
-        # How many fields the kinds 1 to 9 have, and 11.
+        # How many fields the kinds 1 to 9 have, and 11; of a batch its count says. And how many `ask` has room for.
         split("8 2 7 6 2 6 4 2 0", fields, " ")
         fields[11] = 1
+        batch = 10
+        fewest = 8
+        most_fields = 226
         # The room that is lent: what `ask` has, more than a journal needs, more than a refusal. And the refusal where it is too short.
         most = 131072
         plenty = 40000
@@ -177,5 +190,5 @@ WORK=$work awk '
         if (!questions) unfit("no questions")
         if ((getline said < answers) > 0) unfit(answers " has more lines than its questions")
         for (file in at) if (at[file] <= length(all[file])) unfit("crates/ask/" file " goes on behind the last line")
-        print "vectors: " NR " lines are the " questions " questions of ask, with their answers"
+        print "vectors: " NR " lines are the " questions " questions of ask, with their answers" (unasked ? "; batches given more fields than ask takes: " unasked : "")
     }' tests/vectors/*.questions

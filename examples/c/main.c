@@ -1,4 +1,5 @@
-/* Day D of document 01 through the C functions: prints its list, and ends with 1 where an answer is not the paper's. */
+/* Day D of document 01 through the C functions, and a batch of quotes: prints Day D's list, and ends with 1 where an answer is not
+ * the papers'. */
 #include <stdio.h>
 #include <string.h>
 
@@ -13,6 +14,14 @@ static const uint8_t day_d[] = {
 static const char list[] = "event what a b c\n1 T 0 1 0\n2 F 0 12 8\n";
 static const uint8_t sheet[] = {0, 12, 8};
 enum { HEADER = 10, QUOTE = 11 };
+
+/* Two quotes at once: that of Day D, and one without a bid. */
+static const uint8_t batch[] = {
+    0x0A, 0xE8, 0x07, 0x02, 0x02,
+    0x00, 0x6E, 0x14, 0x0F, 0x78, 0x14, 0x00,
+    0x01, 0x00, 0x00, 0x00, 0x82, 0x01, 0x14, 0x00,
+};
+enum { BATCH_WORDS = 5 + 2 * 7 };
 
 static int wrong = 0;
 
@@ -60,24 +69,42 @@ static void sheets(void) {
 }
 
 static void one_record(void) {
-    uint32_t numbers[HASURENTA_WRITE_NUMBERS] = {1, 2, 57600000, 10, 10, 10, 10};
-    uint32_t words[HASURENTA_RECORD_WORDS];
+    uint32_t numbers[HASURENTA_WRITE_NUMBERS_LEAST] = {1, 2, 57600000, 10, 10, 10, 10};
+    uint32_t words[HASURENTA_RECORD_WORDS_LEAST];
     uint8_t out[16];
     memset(out, 0xA5, sizeof out);
     expect("header", hasurenta_write_header(numbers, HASURENTA_HEADER_NUMBERS, out, sizeof out) == HEADER && holds(out, sizeof out, day_d, HEADER));
     expect("header, wrong count", hasurenta_write_header(numbers, 18, out, sizeof out) == refusal(HASURENTA_WRONG_COUNT, 0));
-    expect("read", hasurenta_read_record(numbers, HASURENTA_READ_NUMBERS, day_d + HEADER, sizeof day_d - HEADER, words, HASURENTA_RECORD_WORDS) == HASURENTA_RECORD_WORDS);
+    expect("read", hasurenta_read_record(numbers, HASURENTA_READ_NUMBERS, day_d + HEADER, sizeof day_d - HEADER, words, HASURENTA_RECORD_WORDS_LEAST) == HASURENTA_RECORD_WORDS_LEAST);
     expect("a quote of 11 bytes", words[0] == QUOTE && words[1] == 1 && words[2] == 1000 && words[5] == 110 && words[10] == 0);
     memcpy(numbers + HASURENTA_READ_NUMBERS, words + 1, 10 * sizeof *words);
     memset(out, 0xA5, sizeof out);
-    expect("written again", hasurenta_write_record(numbers, HASURENTA_WRITE_NUMBERS, out, sizeof out) == QUOTE && holds(out, sizeof out, day_d + HEADER, QUOTE));
+    expect("written again", hasurenta_write_record(numbers, HASURENTA_WRITE_NUMBERS_LEAST, out, sizeof out) == QUOTE && holds(out, sizeof out, day_d + HEADER, QUOTE));
+    expect("record, wrong count", hasurenta_write_record(numbers, HASURENTA_WRITE_NUMBERS_LEAST - 1, out, sizeof out) == refusal(HASURENTA_WRONG_COUNT, 0));
     numbers[HASURENTA_READ_NUMBERS] = 0;
-    expect("unknown kind", hasurenta_write_record(numbers, HASURENTA_WRITE_NUMBERS, out, sizeof out) == refusal(4, 0));
+    expect("unknown kind", hasurenta_write_record(numbers, HASURENTA_WRITE_NUMBERS_LEAST, out, sizeof out) == refusal(4, 0));
+}
+
+static void one_batch(void) {
+    uint32_t numbers[HASURENTA_WRITE_NUMBERS_MOST] = {1, 2, 57600000, 10, 10, 10, 10};
+    uint32_t words[HASURENTA_RECORD_WORDS_MOST];
+    uint8_t out[32];
+    const size_t count = HASURENTA_READ_NUMBERS + BATCH_WORDS - 1;
+    expect("a batch, no room", hasurenta_read_record(numbers, HASURENTA_READ_NUMBERS, batch, sizeof batch, words, BATCH_WORDS - 1) == refusal(9, 0));
+    expect("a batch read", hasurenta_read_record(numbers, HASURENTA_READ_NUMBERS, batch, sizeof batch, words, HASURENTA_RECORD_WORDS_MOST) == BATCH_WORDS);
+    expect("two quotes", words[0] == sizeof batch && words[1] == 10 && words[3] == 2 && words[4] == 2 && words[6] == 110 && words[16] == 130);
+    memcpy(numbers + HASURENTA_READ_NUMBERS, words + 1, (BATCH_WORDS - 1) * sizeof *words);
+    memset(out, 0xA5, sizeof out);
+    expect("a batch, a number short", hasurenta_write_record(numbers, count - 1, out, sizeof out) == refusal(5, 0) && holds(out, sizeof out, "", 0));
+    expect("a batch written", hasurenta_write_record(numbers, count, out, sizeof out) == sizeof batch && holds(out, sizeof out, batch, sizeof batch));
+    numbers[HASURENTA_READ_NUMBERS + 3] = 33;
+    expect("33 quotes", hasurenta_write_record(numbers, HASURENTA_WRITE_NUMBERS_MOST, out, sizeof out) == refusal(5, 0));
 }
 
 int main(void) {
     whole_journal();
     sheets();
     one_record();
+    one_batch();
     return wrong;
 }

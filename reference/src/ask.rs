@@ -1,7 +1,7 @@
 //! Questions and answers of the bulk test program: everything behind one byte format, little-endian.
 
+use crate::alone::Plain;
 use crate::header::Header;
-use crate::record::Record;
 use crate::refusal::Refusal;
 use crate::{day, journal, sheet, totals};
 use std::io::{self, Read, Write};
@@ -104,24 +104,29 @@ impl Question {
         self.with_output(|out| Header::of_numbers(&header).write(out))
     }
 
+    /// Header, time so far, kind, milliseconds, and as many fields as are given.
     fn write_record(&self) -> Answer {
-        let Some(words) = words::<{ Header::NUMBERS + 3 + Record::MOST_FIELDS }>(&self.a) else {
+        const BEFORE: usize = Header::NUMBERS + 3;
+        let wanted = BEFORE + Plain::FEWEST_FIELDS..=BEFORE + Plain::MOST_FIELDS;
+        let Some(words) = all_words(&self.a).filter(|words| wanted.contains(&words.len())) else {
             return Answer::bare(98);
         };
         let (header, rest) = split_header(&words);
-        let mut record = Record { kind: rest[1], milliseconds: rest[2], ..Record::default() };
-        record.fields.copy_from_slice(&rest[3..]);
+        let record = Plain { kind: rest[1], milliseconds: rest[2], fields: &rest[3..] };
         self.with_output(|out| record.write(&header, rest[0], out))
     }
 
+    /// Bytes used, kind, milliseconds and "the record's fields, at least 8 of them (unused 0)".
     fn read_record(&self) -> Answer {
         let Some(words) = words::<{ Header::NUMBERS + 1 }>(&self.a) else {
             return Answer::bare(98);
         };
         let (header, rest) = split_header(&words);
-        without_output(Record::read_alone(&header, rest[0], &self.b).map(|(used, record)| {
-            let opening = [used as u32, record.kind, record.milliseconds];
-            opening.iter().chain(&record.fields).flat_map(|word| word.to_le_bytes()).collect()
+        without_output(Plain::read_alone(&header, rest[0], &self.b).map(|(used, record)| {
+            let mut said = vec![used as u32, record.kind, record.milliseconds];
+            said.extend(&record.fields);
+            said.resize(said.len().max(3 + Plain::FEWEST_FIELDS), 0);
+            said.iter().flat_map(|word| word.to_le_bytes()).collect()
         }))
     }
 }
@@ -149,7 +154,12 @@ impl Answer {
 
 /// `COUNT` words and nothing else.
 fn words<const COUNT: usize>(bytes: &[u8]) -> Option<[u32; COUNT]> {
-    (bytes.len() == 4 * COUNT).then(|| std::array::from_fn(|at| word_at(bytes, 4 * at)))
+    all_words(bytes)?.try_into().ok()
+}
+
+/// Words and nothing else.
+fn all_words(bytes: &[u8]) -> Option<Vec<u32>> {
+    (bytes.len() % 4 == 0).then(|| (0..bytes.len()).step_by(4).map(|at| word_at(bytes, at)).collect())
 }
 
 fn split_header(words: &[u32]) -> (Header, &[u32]) {

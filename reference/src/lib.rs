@@ -3,7 +3,11 @@
 
 #[cfg(test)]
 mod again;
+pub mod alone;
 pub mod ask;
+pub mod batch;
+#[cfg(test)]
+mod batches;
 #[cfg(test)]
 mod cancellations;
 pub mod claims;

@@ -7,14 +7,16 @@ use crate::journal::Journal;
 use crate::record::kind;
 
 /// Every kind with what it is full of.
-pub const KINDS: [(&str, &str); 4] = [
+pub const KINDS: [(&str, &str); 6] = [
     ("quotes", "quotes of eight exchanges in every series"),
     ("claims", "128 trades, 256 sent orders, 512 Satisfaction Orders"),
     ("worst", "one trade of 100,000 contracts shared among seven exchanges"),
     ("mixed", "all that happens on a market, and the closing record in the middle"),
+    ("batches", "32 series quoted again and again by batches, 2,048 quotes"),
+    ("singles", "the same quotes, each by a record of its own"),
 ];
 
-/// A journal of exactly as many bytes as one may have.
+/// A journal of exactly as many bytes as one may have; batches, and the same quotes singly, take fewer.
 pub fn journal(kind: &str) -> Option<Vec<u8>> {
     let chance = &mut Chance::new(1, 0);
     let mut day = Activity::open(chance, &header());
@@ -25,6 +27,8 @@ pub fn journal(kind: &str) -> Option<Vec<u8>> {
         "claims" => claims(&mut day),
         "worst" => worst(&mut day),
         "mixed" => mixed(&mut day),
+        "batches" => return Some(requotes(day, true)),
+        "singles" => return Some(requotes(day, false)),
         _ => return None,
     }
     day.fill_up(Journal::MOST_BYTES);
@@ -67,6 +71,24 @@ fn worst(day: &mut Activity) {
     for from in 2..=8 {
         day.add_as_is(7, 200, &[0, from, 251, 100_000]);
     }
+}
+
+/// Each exchange in turn quotes every series, eight times over.
+fn requotes(mut day: Activity, at_once: bool) -> Vec<u8> {
+    for turn in 0..64 {
+        let exchange = 1 + turn % 8;
+        let quotes: Vec<[u32; 7]> =
+            (0..32).map(|series| [series, 240 + turn % 5, 20, 5, 260 + turn % 7, 20, 5]).collect();
+        if at_once {
+            day.add_as_is(kind::BATCH, 100, &[&[exchange, 32][..], &quotes.concat()].concat());
+            continue;
+        }
+        for (n, quote) in quotes.iter().enumerate() {
+            let milliseconds = if n == 0 { 100 } else { 0 };
+            day.add_as_is(kind::QUOTE, milliseconds, &[&[exchange][..], quote].concat());
+        }
+    }
+    day.bytes
 }
 
 fn mixed(day: &mut Activity) {

@@ -1,10 +1,11 @@
-//! Small cases of numbers, records, refusals and questions, and that every made journal is a full one.
+//! Small cases of numbers, records, refusals and questions, and how long every made journal is.
 
+use crate::alone::Plain;
 use crate::ask::{self, Question};
 use crate::header::{FirmSizes, Header};
 use crate::journal::Journal;
 use crate::number::Reader;
-use crate::record::{Record, kind};
+use crate::record::kind;
 use crate::refusal::{No, Refusal};
 use crate::{day, journal, make};
 
@@ -40,7 +41,7 @@ fn an_empty_journal_and_one_that_is_too_long() {
     assert_eq!(day::printed(&vec![0; Journal::MOST_BYTES + 1]), b"refused 1 at 0\n");
 }
 
-fn two_exchanges() -> Header {
+pub fn two_exchanges() -> Header {
     let mut header = Header { home: 1, exchanges: 2, close: 57_600_000, ..Header::default() };
     header.sizes[..2].fill(FirmSizes { automatic: 10, principal: 10 });
     header
@@ -49,15 +50,15 @@ fn two_exchanges() -> Header {
 #[test]
 fn a_closing_record_alone_has_no_fields() {
     let header = two_exchanges();
-    let closing = Record { kind: kind::CLOSING_WINDOW, milliseconds: 300, ..Record::default() };
-    let with_fields_beyond = Record { fields: [u32::MAX; Record::MOST_FIELDS], ..closing };
+    let closing = Plain { kind: kind::CLOSING_WINDOW, milliseconds: 300, fields: vec![] };
+    let with_fields_beyond = Plain { fields: [u32::MAX; 8], kind: closing.kind, milliseconds: 300 };
     let mut out = [0; 4];
     assert_eq!(with_fields_beyond.write(&header, 0, &mut out), Ok(3));
     assert_eq!(out, [9, 0xAC, 0x02, 0]);
-    assert_eq!(Record::read_alone(&header, 0, &out), Ok((3, closing)));
+    assert_eq!(Plain::read_alone(&header, 0, &out), Ok((3, closing.clone())));
     let refused = |no, place| Err(Refusal { no, place });
-    assert_eq!(Record::read_alone(&header, 86_399_700, &out), refused(No::Field, 0));
-    assert_eq!(Record::read_alone(&header, 0, &out[..2]), refused(No::UnreadableNumber, 1));
+    assert_eq!(Plain::read_alone(&header, 86_399_700, &out), refused(No::Field, 0));
+    assert_eq!(Plain::read_alone(&header, 0, &out[..2]), refused(No::UnreadableNumber, 1));
     assert_eq!(closing.write(&header, 86_399_700, &mut out), Err(Refusal::new(No::Field)));
     assert_eq!(closing.write(&header, 0, &mut out[..2]), Err(Refusal::new(No::OutputTooShort)));
 }
@@ -65,23 +66,19 @@ fn a_closing_record_alone_has_no_fields() {
 #[test]
 fn a_cancellation_alone_names_any_number_and_any_exchange() {
     let header = two_exchanges();
-    let of = |order, named| Record {
-        kind: kind::CANCELLATION,
-        fields: [order, named, 0, 0, 0, 0, 0, 0],
-        ..Record::default()
-    };
+    let of = |order, named| Plain { kind: kind::CANCELLATION, milliseconds: 0, fields: vec![order, named] };
     let mut out = [0xA5; 8];
     for named in [1, 2] {
         let cancellation = of(268_435_455, named);
         assert_eq!(cancellation.write(&header, 0, &mut out), Ok(7));
         assert_eq!(out, [8, 0, 0xFF, 0xFF, 0xFF, 0x7F, named as u8, 0xA5]);
-        assert_eq!(Record::read_alone(&header, 0, &out), Ok((7, cancellation)));
+        assert_eq!(Plain::read_alone(&header, 0, &out), Ok((7, cancellation)));
     }
     let refused = |no, place| Err(Refusal { no, place });
-    assert_eq!(Record::read_alone(&header, 0, &[8, 0, 0]), refused(No::UnreadableNumber, 3));
-    assert_eq!(Record::read_alone(&header, 0, &[8, 0, 0, 0]), refused(No::Field, 0));
-    assert_eq!(Record::read_alone(&header, 0, &[8, 0, 0, 3]), refused(No::Field, 0));
-    assert_eq!(Record::read_alone(&header, 86_399_999, &[8, 1, 0, 2]), refused(No::Field, 0));
+    assert_eq!(Plain::read_alone(&header, 0, &[8, 0, 0]), refused(No::UnreadableNumber, 3));
+    assert_eq!(Plain::read_alone(&header, 0, &[8, 0, 0, 0]), refused(No::Field, 0));
+    assert_eq!(Plain::read_alone(&header, 0, &[8, 0, 0, 3]), refused(No::Field, 0));
+    assert_eq!(Plain::read_alone(&header, 86_399_999, &[8, 1, 0, 2]), refused(No::Field, 0));
     for unfit in [of(268_435_456, 2), of(0, 0), of(0, 3), of(0, u32::MAX)] {
         assert_eq!(unfit.write(&header, 0, &mut out), Err(Refusal::new(No::Field)));
     }
@@ -90,17 +87,17 @@ fn a_cancellation_alone_names_any_number_and_any_exchange() {
 #[test]
 fn a_no_block_record_alone_names_any_number() {
     let header = two_exchanges();
-    let of = |order| Record { kind: kind::NO_BLOCK, fields: [order, 0, 0, 0, 0, 0, 0, 0], ..Record::default() };
+    let of = |order| Plain { kind: kind::NO_BLOCK, milliseconds: 0, fields: vec![order] };
     let mut out = [0xA5; 8];
     let no_block = of(268_435_455);
-    let with_fields_beyond = Record { fields: [268_435_455, 9, 9, 9, 9, 9, 9, u32::MAX], ..no_block };
+    let with_fields_beyond = Plain { fields: [268_435_455, 9, 9, 9, 9, 9, 9, u32::MAX], kind: 11, milliseconds: 0 };
     assert_eq!(with_fields_beyond.write(&header, 0, &mut out), Ok(6));
     assert_eq!(out, [11, 0, 0xFF, 0xFF, 0xFF, 0x7F, 0xA5, 0xA5]);
-    assert_eq!(Record::read_alone(&header, 0, &out), Ok((6, no_block)));
+    assert_eq!(Plain::read_alone(&header, 0, &out), Ok((6, no_block.clone())));
     let refused = |no, place| Err(Refusal { no, place });
-    assert_eq!(Record::read_alone(&header, 0, &[11, 0]), refused(No::UnreadableNumber, 2));
-    assert_eq!(Record::read_alone(&header, 0, &[11, 0, 0x80, 0]), refused(No::UnreadableNumber, 2));
-    assert_eq!(Record::read_alone(&header, 86_399_999, &[11, 1, 0]), refused(No::Field, 0));
+    assert_eq!(Plain::read_alone(&header, 0, &[11, 0]), refused(No::UnreadableNumber, 2));
+    assert_eq!(Plain::read_alone(&header, 0, &[11, 0, 0x80, 0]), refused(No::UnreadableNumber, 2));
+    assert_eq!(Plain::read_alone(&header, 86_399_999, &[11, 1, 0]), refused(No::Field, 0));
     for unfit in [268_435_456, u32::MAX] {
         assert_eq!(of(unfit).write(&header, 0, &mut out), Err(Refusal::new(No::Field)));
     }
@@ -109,9 +106,34 @@ fn a_no_block_record_alone_names_any_number() {
 
 #[test]
 fn unknown_kinds() {
-    for kind in [0, 10, 12, 128] {
-        let unknown = Record { kind, ..Record::default() };
+    for kind in [0, 12, 13, 128] {
+        let unknown = Plain { kind, milliseconds: 0, fields: [0; 8] };
         assert_eq!(unknown.write(&two_exchanges(), 0, &mut [0; 4]), Err(Refusal::new(No::UnknownKind)));
+    }
+}
+
+/// Header, time so far, kind, milliseconds and 8 to 226 fields.
+#[test]
+fn questions_about_a_record_have_room_for_8_to_226_fields() {
+    for (fields, no) in [(7, 98), (8, 4), (9, 4), (225, 4), (226, 4), (227, 98)] {
+        let mut numbers = vec![1, 2, 57_600_000, 10, 10, 10, 10];
+        numbers.resize(22 + fields, 0);
+        let a: Vec<u8> = numbers.iter().flat_map(|number: &u32| number.to_le_bytes()).collect();
+        let question = Question { op: ask::op::WRITE_RECORD, cap: 9, a, b: vec![] };
+        assert_eq!(question.answer().no, no);
+        let odd = Question { a: [&question.a[..], &[0]].concat(), ..question };
+        assert_eq!(odd.answer().no, 98);
+    }
+}
+
+#[test]
+fn a_record_that_is_read_has_at_least_8_fields() {
+    let numbers: [u32; 20] = std::array::from_fn(|at| [1, 2, 57_600_000, 10, 10, 10, 10].get(at).copied().unwrap_or(0));
+    let a: Vec<u8> = numbers.iter().flat_map(|number| number.to_le_bytes()).collect();
+    let two_quotes = [10, 0, 2, 2, 0, 100, 1, 1, 101, 1, 1, 0, 100, 1, 1, 101, 1, 1];
+    for (bytes, words) in [(&[9, 0][..], 11), (&[2, 0, 1, 0], 11), (&two_quotes, 19)] {
+        let read = Question { op: ask::op::READ_RECORD, cap: 0, a: a.clone(), b: bytes.to_vec() };
+        assert_eq!(read.answer().bytes.len(), 4 * words);
     }
 }
 
@@ -119,7 +141,7 @@ fn unknown_kinds() {
 fn made_journals_are_full_and_good() {
     for (kind, _) in make::KINDS {
         let made = make::journal(kind).expect("a kind that is named");
-        assert_eq!(made.len(), Journal::MOST_BYTES);
+        assert_eq!(made.len() == Journal::MOST_BYTES, !["batches", "singles"].contains(&kind), "{kind}");
         assert_eq!(journal::accept(&made), Ok(()), "{kind}");
     }
 }

@@ -1,7 +1,7 @@
 //! Holds the library against files of questions and of right answers, line by line.
 
+use crate::alone::Plain;
 use crate::header::Header;
-use crate::record::Record;
 use crate::refusal::Refusal;
 use crate::{day, journal, sheet, totals};
 use std::collections::BTreeMap;
@@ -85,10 +85,7 @@ fn write_record(cap: &str, words: &[&str]) -> Option<String> {
     let [time, kind, milliseconds, ref fields @ ..] = numbers[..] else {
         return None;
     };
-    let mut record = Record { kind, milliseconds, ..Record::default() };
-    for (field, given) in record.fields.iter_mut().zip(fields) {
-        *field = *given;
-    }
+    let record = Plain { kind, milliseconds, fields };
     Some(written(cap, |out| record.write(&header, time, out)))
 }
 
@@ -97,9 +94,9 @@ fn read_record(words: &[&str]) -> Option<String> {
     let [time, record] = *rest else {
         return None;
     };
-    Some(said(Record::read_alone(&header, time.parse().ok()?, &bytes(record)?), |(used, record)| {
+    Some(said(Plain::read_alone(&header, time.parse().ok()?, &bytes(record)?), |(used, record)| {
         let mut line = format!("ok {used} {} {}", record.kind, record.milliseconds);
-        for field in record.own_fields() {
+        for field in record.fields {
             line += &format!(" {field}");
         }
         line

@@ -1,2 +1,5 @@
-pub mod Alone
+pub mod Copies
+pub mod Judging
+pub mod Reading
+pub mod Writing
 pub mod Settled

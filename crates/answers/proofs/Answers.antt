@@ -5,6 +5,7 @@ use Prim.Native.Nat.{ℕ, _≤_}
 use lib.ListN.{length, replicate, length-replicate}
 use Rattle.rules.specs.Basics.{Answer, refused, ok, _>>=_}
 use Rattle.rules.specs.Limits.{mostTrades, mostSatisfactionOrders}
+use Rattle.rules.specs.Journal.{journalOf, journal}
 use Rattle.rules.specs.OwnSheet.{ownSheet}
 use Rattle.rules.specs.PrintedDay.{dayText}
 use Rattle.rules.specs.Writing.{into, lentAfter, writeDay, writeSheet}
@@ -19,6 +20,7 @@ use Rattle.journal.specs.declared.Rewritten.the-variants.{Written as Wrote, Unw
 use Rattle.claims.specs.Lines.{Filing}
 use Rattle.list.specs.Listing.{mostRows, listWords}
 use Rattle.printed.specs.Printing.{Prints}
+use Rattle.walk.proofs.Reaching.{journal-refused, journal-accepted}
 use Rattle.survey.specs.Survey.{Told, SurveyedAs}
 use Rattle.survey.specs.declared.Surveyed.{Surveyed}
 use Rattle.survey.specs.declared.Surveyed.the-variants.{Whole, Stopped}
@@ -67,10 +69,10 @@ pub whole-printed : (cl tr : List ℕ) (trades lines : ℕ) (rows : List ℕ) (l
     → (r : Rewritten) → r ≡ answeredAs w → DayPrinted cl tr trades lines rows listed out r out2
 whole-printed cl tr trades lines rows listed fills own out out2 w wrote r er =
     record {
-      so = λ j books listing.
+      so = λ d books listing.
           rw er
-          (written-left (into (length out) (dayText j)) out out2 w
-          (wrote .so j tr trades books (own .so j books (length-replicate {A = ℕ} 512 0)) listing));
+          (written-left (into (length out) (dayText d)) out out2 w
+          (wrote .so d tr trades books (own .so (journalOf d) books (length-replicate {A = ℕ} 512 0)) listing));
     }
 
 -- ---- a journal that is refused
@@ -83,16 +85,19 @@ module _ (s lent tr snaps cl list : List ℕ) (v : Surveyed) (sv : SurveyedAs s 
 
     pub sheet-refused : leftBy (Unwritten n p) out ≡ leaves (writeSheet s (length out)) out
     unfolding writeSheet _>>=_
-    sheet-refused = refused-left (writeSheet s (length out)) n p out (rw (sv .stopped n p e))
+    sheet-refused = refused-left (writeSheet s (length out)) n p out (rw (journal-refused s n p (sv .stopped n p e)))
 
     pub check-refused : checkedAs (Unfit n p) ≡ checkSheet s out
-    check-refused = sym (journal-refused-first s out n p (sv .stopped n p e))
+    check-refused = sym (journal-refused-first s out n p (journal-refused s n p (sv .stopped n p e)))
 
   -- ---- a journal that is accepted
 
   module _ (trades lines listed : ℕ) (e : v ≡ Whole trades lines listed) where
     told : Told s tr snaps cl list trades lines listed
     told = sv .whole trades lines listed e
+
+    accepted : journal s ≡ ok (journalOf (told .day-is))
+    accepted = journal-accepted s (told .day-is) (told .accepted)
 
     pub few-trades : trades ≤ mostTrades
     few-trades = told .few-trades
@@ -107,10 +112,10 @@ module _ (s lent tr snaps cl list : List ℕ) (v : Surveyed) (sv : SurveyedAs s 
         → leftBy r out2 ≡ leaves (writeSheet s (length out)) out
     unfolding writeSheet _>>=_
     sheet-written out out2 w wrote r er =
-        rw (er, told .accepted) (written-left (into (length out) (ownSheet (told .journal-is))) out out2 w (wrote .so (told .journal-is) (told .books)))
+        rw (er, accepted) (written-left (into (length out) (ownSheet (journalOf (told .day-is)))) out out2 w (wrote .so (journalOf (told .day-is)) (told .books)))
 
     pub sheet-checked : (sheet : List ℕ) (r : Checked) → CheckedAs cl tr trades lines sheet r → checkedAs r ≡ checkSheet s sheet
-    sheet-checked sheet r c = whole-check s sheet (told .journal-is) (told .accepted) cl tr trades lines (told .books) r c
+    sheet-checked sheet r c = whole-check s sheet (journalOf (told .day-is)) accepted cl tr trades lines (told .books) r c
 
     module _ (full : length lent ≡ listWords) where
       pub full-rows : length list ≡ listWords
@@ -122,7 +127,7 @@ module _ (s lent tr snaps cl list : List ℕ) (v : Surveyed) (sv : SurveyedAs s 
       pub day-printed : (out out2 : List ℕ) (r : Rewritten) → DayPrinted cl tr trades lines list listed out r out2
           → leftBy r out2 ≡ leaves (writeDay s (length out)) out
       unfolding writeDay _>>=_
-      day-printed out out2 r printed = rw (told .accepted) (printed .so (told .journal-is) (told .books) (told .listing (sv .long ∙ full)))
+      day-printed out out2 r printed = rw (told .accepted) (printed .so (told .day-is) (told .books) (told .listing (sv .long ∙ full)))
 
 pub full-list : length {A = ℕ} (replicate listWords 0) ≡ listWords
 full-list = length-replicate {A = ℕ} listWords 0

@@ -3,7 +3,7 @@ use mathlib.Core.Path.{_≡_}
 use mathlib.Core.List.{List}
 use Prim.Native.Nat.{ℕ}
 use lib.ListN.{length}
-use Rattle.rules.specs.Journal.{Journal}
+use Rattle.rules.specs.Journal.{DayRecords, journalOf}
 use Rattle.rules.specs.PrintedDay.{dayText}
 use Rattle.rules.specs.Writing.{into}
 use Rattle.number.specs.Writing.{leaves}
@@ -13,12 +13,12 @@ use Rattle.journal.specs.Entries.{leftBy}
 use Rattle.journal.specs.declared.Rewritten.{Rewritten}
 use Rattle.journal.specs.declared.Rewritten.the-variants.{Written as Wrote, Unwritten}
 use Rattle.claims.specs.Books.{Books}
-use Rattle.list.specs.Listing.{Listing}
+use Rattle.list.specs.Listing.{DayListing}
 
 abbrev pub answeredAs : Written → Rewritten
 answeredAs (To bytes) = Wrote bytes
 answeredAs (Refused number) = Unwritten number 0
 
 pub record DayPrinted (cl tr : List ℕ) (trades lines : ℕ) (rows : List ℕ) (listed : ℕ) (before : List ℕ) (r : Rewritten) (after : List ℕ) : Type 0 where
-  pub so : (j : Journal) → Books j tr cl trades lines → Listing (j .header) (j .history) rows listed
-      → leftBy r after ≡ leaves (into (length before) (dayText j)) before
+  pub so : (d : DayRecords) → Books (journalOf d) tr cl trades lines → DayListing d rows listed
+      → leftBy r after ≡ leaves (into (length before) (dayText d)) before

@@ -5,7 +5,7 @@ pub struct Numbers;
 
 impl Numbers {
     // as many as an entry takes at most
-    pub const MOST: usize = desk::Numbers::RECORD;
+    pub const MOST: usize = desk::Numbers::RECORD_MOST;
 }
 
 fn wide(x: u8) -> u32

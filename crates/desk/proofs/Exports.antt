@@ -7,7 +7,7 @@ use lib.ListN.{length, set, drop}
 use borrow.Author.Tests.{le-leb, lt-leb}
 use Rattle.rules.specs.Basics.{Answer, refused, ok, _>>=_}
 use Rattle.rules.specs.Refusals.{outputTooShort}
-use Rattle.rules.specs.Journal.{Journal, journal}
+use Rattle.rules.specs.Journal.{DayRecords, dayRecords, journalOf, journal}
 use Rattle.rules.specs.Totals.{dayTotals}
 use Rattle.rules.specs.SheetCheck.{checkSheet}
 use Rattle.rules.specs.Writing.{noPlace, into, lentAfter}
@@ -80,15 +80,15 @@ unwritten-ok : {A : Type 0} (x : Answer A) (a : A) → x ≡ ok a → 0 ≡ code
 unfolding unwritten _>>=_
 unwritten-ok x a e = rw e
 
-through : (m : Answer Journal) → codeOf (unwritten (m >>= λ j. ok (length (j .history)))) ≡ codeOf (unwritten m)
+through : (m : Answer DayRecords) → codeOf (unwritten (m >>= λ d. ok (length (d .records)))) ≡ codeOf (unwritten (m >>= λ d. ok (journalOf d)))
 unfolding unwritten _>>=_
 through (refused n p) = refl
-through (ok j) = refl
+through (ok d) = refl
 
 module _ (s : List ℕ) (v : Verdict) (ev : verdictAs v ≡ accepted s) where
   same-as-counted : codeOf (unwritten (accepted s)) ≡ codeOf (unwritten (journal s))
-  unfolding accepted unwritten _>>=_
-  same-as-counted = through (journal s)
+  unfolding accepted journal unwritten _>>=_
+  same-as-counted = through (dayRecords s)
 
   pub journal-refused : (n p r : ℕ) → v ≡ Refused n p → r ≡ codeOf (refused n p) → r ≡ codeOf (unwritten (journal s))
   journal-refused n p r e g = g ∙ unwritten-refused (accepted s) n p (sym ev ∙ ap verdictAs e) ∙ same-as-counted

@@ -1,21 +1,22 @@
 // The desk's functions for other languages: slices in, lent memory, one number out. include/hasurenta.h declares them.
 ghost use mathlib.Core.Path.{_≡_};
 ghost use mathlib.Core.List.{[], _∷_};
-ghost use Prim.Native.Nat.{_%_};
-ghost use lib.ListN.{length};
+ghost use Prim.Native.Nat.{_+_, _%_, _≤_};
+ghost use lib.ListN.{length, take};
 ghost use Rattle.rules.specs.Basics.{refused};
 ghost use Rattle.rules.specs.Journal.{journal};
 ghost use Rattle.rules.specs.SheetCheck.{checkSheet};
 ghost use Rattle.rules.specs.Writing.{into, rewriteJournal, writeSheet, writeDay};
 ghost use Rattle.text.specs.Lent.{asAnswer};
-ghost use Rattle.header.specs.Head.{firstWords};
 ghost use Rattle.desk.specs.Exports.{refusalUnit, codeOf, unwritten, Gives, writeTotals, rewrittenAs};
-ghost use Rattle.desk.specs.Records.{writeHeaderFrom, writeRecordFrom, readRecordFrom};
+ghost use Rattle.desk.specs.Records.{writeHeaderFrom, writeRecordFrom, readRecordFrom, handedOut, behindThree};
 use given::Given;
 use journal::DayTotals;
 use journal::Rewritten;
 use journal::Verdict;
+use limits::Batch;
 use rows::Code;
+use rows::Rec;
 use rows::Refusal;
 use said::Checked;
 use text::Written;
@@ -105,7 +106,7 @@ pub extern "C" fn hasurenta_rewrite(j: &[u8], out: &mut [u8]) -> u64
     coded(journal::rewrite(j, out))
 }
 
-// How many numbers the functions below take.
+// How many numbers the functions below take, and how many words the reader of a record writes.
 pub struct Numbers;
 
 impl Numbers {
@@ -115,7 +116,15 @@ impl Numbers {
     pub const READING: usize = Numbers::HEADER + 1;
 
     // and the record's own
-    pub const RECORD: usize = Numbers::READING + Given::RECORD;
+    pub const RECORD_LEAST: usize = Numbers::READING + Given::RECORD_LEAST;
+
+    pub const RECORD_MOST: usize = Numbers::READING + Given::RECORD_MOST;
+
+    // bytes used, kind, milliseconds
+    pub const WORDS_FRONT: usize = 3;
+
+    // and the fields of the longest batch
+    pub const RECORD_WORDS_MOST: usize = Numbers::WORDS_FRONT + Batch::WORDS;
 
     // the refusal of more or fewer
     pub const WRONG_COUNT: u32 = 98;
@@ -145,41 +154,61 @@ pub extern "C" fn hasurenta_write_header(numbers: &[u32], out: &mut [u8]) -> u64
 pub extern "C" fn hasurenta_write_record(numbers: &[u32], out: &mut [u8]) -> u64
     ensures { λ r. ⌜ Gives (writeRecordFrom (now (numbers .entry)) (length (now (out .entry)))) (now (out .entry)) r (now (out .exit)) ⌝ }
 {
-    if numbers.len() != Numbers::RECORD {
+    if numbers.len() < Numbers::RECORD_LEAST {
+        return refusal(Numbers::WRONG_COUNT, 0);
+    }
+    if Numbers::RECORD_MOST < numbers.len() {
         return refusal(Numbers::WRONG_COUNT, 0);
     }
     let head = given::head_of(numbers);
-    let fields = given::fields_at(numbers, 22);
-    written(alone::write_record(out, head, numbers[19], numbers[20], numbers[21], fields))
+    written(alone::write_record(
+        out,
+        head,
+        numbers[19],
+        numbers[20],
+        numbers[21],
+        &numbers[22..],
+    ))
 }
 
-// These words, or 9 and nothing.
-fn put_words(words: &[u32], out: &mut [u32]) -> u64
-    ensures { λ r. ⌜ Gives (into (length (now (out .entry))) (now (words .entry))) (now (out .entry)) r (now (out .exit)) ⌝ }
+// How many words are handed out of a record's fields: all that it has, and at least 8.
+fn handed_out(kind: u32, fields: &[u32; Batch::WORDS]) -> usize
+    ensures { λ r. ⌜ r ≡ handedOut kind (now (fields .entry)) ⌝ }
 {
-    if out.len() < words.len() {
+    if kind == Rec::BATCH {
+        return Batch::FRONT + rows::index(fields[1]) * Batch::QUOTE;
+    }
+    Given::FIELDS
+}
+
+// So many fields behind three words; those stay, and so do the words behind the fields.
+fn put_fields(fields: &[u32], count: usize, out: &mut [u32])
+    requires { ⌜ (count ≤ length (now fields)) × (3 + count ≤ length (now out)) ⌝ }
+    ensures { λ _. ⌜ now (out .exit) ≡ behindThree (now (fields .entry)) count (now (out .entry)) ⌝ }
+{
+    rows::copy_first(fields, count, &mut out[Numbers::WORDS_FRONT..]);
+}
+
+// Bytes used, kind, milliseconds and so many fields, or 9 and nothing.
+fn put_record(
+    used: usize,
+    kind: u32,
+    elapsed: u32,
+    fields: &[u32; Batch::WORDS],
+    count: usize,
+    out: &mut [u32],
+) -> u64
+    requires { ⌜ (count ≤ 226) × (count ≤ length (now fields)) ⌝ }
+    ensures { λ r. ⌜ Gives (into (length (now (out .entry))) (used % refusalUnit ∷ kind ∷ elapsed ∷ take count (now (fields .entry)))) (now (out .entry)) r (now (out .exit)) ⌝ }
+{
+    if out.len() < Numbers::WORDS_FRONT + count {
         return refusal(Refusal::OUTPUT_TOO_SHORT, 0);
     }
-    rows::copy_first(words, words.len(), out);
-    words.len() as u64 % Code::UNIT
-}
-
-fn words_of(used: usize, kind: u32, elapsed: u32, row: [u32; 8]) -> [u32; 11]
-    ensures { λ r. ⌜ r ≡ used % refusalUnit ∷ kind ∷ elapsed ∷ firstWords 8 row ⌝ }
-{
-    [
-        (used as u64 % Code::UNIT) as u32,
-        kind,
-        elapsed,
-        row[0],
-        row[1],
-        row[2],
-        row[3],
-        row[4],
-        row[5],
-        row[6],
-        row[7],
-    ]
+    out[0] = (used as u64 % Code::UNIT) as u32;
+    out[1] = kind;
+    out[2] = elapsed;
+    put_fields(fields, count, out);
+    (Numbers::WORDS_FRONT + count) as u64 % Code::UNIT
 }
 
 #[no_mangle]
@@ -190,12 +219,12 @@ pub extern "C" fn hasurenta_read_record(numbers: &[u32], bytes: &[u8], out: &mut
         return refusal(Numbers::WRONG_COUNT, 0);
     }
     let head = given::head_of(numbers);
-    let taken = alone::read_record(bytes, head, numbers[19]);
+    let mut fields = [0u32; Batch::WORDS];
+    let taken = alone::read_record(bytes, head, numbers[19], &mut fields);
     if taken.no != 0 {
         return refusal(taken.no, taken.place);
     }
     let rec = taken.rec;
-    let row = rec.row;
-    let words = words_of(taken.used, rec.kind, taken.elapsed, row);
-    put_words(&words, out)
+    let count = handed_out(rec.kind, &fields);
+    put_record(taken.used, rec.kind, taken.elapsed, &fields, count, out)
 }

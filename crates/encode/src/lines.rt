@@ -10,8 +10,8 @@ pub enum Line {
 }
 
 impl Line {
-    // 20 numbers of at most ten digits and a space each, and some more
-    const BYTES: usize = 256;
+    // 229 numbers of at most ten digits and a space each, and some more
+    const BYTES: usize = 4096;
 }
 
 // A number, and the place after its last digit.

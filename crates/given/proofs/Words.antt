@@ -10,7 +10,7 @@ use Rattle.header.specs.declared.Head.{Head}
 use Rattle.given.specs.Given.{wordsAt, headFrom}
 
 -- as many as there is room for
-pub words-copied : (at k : ℕ) (ns before after : List ℕ) → length before ≡ k
+words-copied : (at k : ℕ) (ns before after : List ℕ) → length before ≡ k
     → Copied (take (length ns - at) (drop at ns)) k before after → after ≡ wordsAt at k ns
 unfolding wordsAt
 words-copied at k ns before after full c =
@@ -21,4 +21,4 @@ pub head-is : (ns before sizes : List ℕ) → length before ≡ 16 → Copied (
     → _≡_ {A = Head} (record { home = getD ns 0 0; exchanges = getD ns 1 0; close = getD ns 2 0; sizes = sizes }) (headFrom ns)
 head-is ns before sizes full c = rw (words-copied 3 16 ns before sizes full c)
 
-pub ruleset word-laws = (words-copied, head-is)
+pub ruleset word-laws = (head-is)

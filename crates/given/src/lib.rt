@@ -1,9 +1,10 @@
-// A header and a record's fields out of a row of plain numbers, as other languages and a text hand them in.
+// A header out of a row of plain numbers, as other languages and a text hand it in; and how many numbers there are of it and of a record.
 ghost use mathlib.Core.Path.{_≡_};
-ghost use Prim.Native.Nat.{_+_, _≤_};
+ghost use Prim.Native.Nat.{_≤_};
 ghost use lib.ListN.{length};
-ghost use Rattle.given.specs.Given.{wordsAt, headFrom};
+ghost use Rattle.given.specs.Given.{headFrom};
 use header::Head;
+use limits::Batch;
 
 // How many numbers there are.
 pub struct Given;
@@ -12,8 +13,14 @@ impl Given {
     // home, N, close, 16 sizes, of which 2N count
     pub const HEADER: usize = 19;
 
-    // kind, milliseconds, 8 fields, of which as many count as the kind has
-    pub const RECORD: usize = 10;
+    // fields of a record, of which as many count as it has
+    pub const FIELDS: usize = 8;
+
+    // kind, milliseconds, fields
+    pub const RECORD_LEAST: usize = 2 + Given::FIELDS;
+
+    // kind, milliseconds, the fields of the longest batch
+    pub const RECORD_MOST: usize = 2 + Batch::WORDS;
 }
 
 pub fn head_of(numbers: &[u32]) -> Head
@@ -28,13 +35,4 @@ pub fn head_of(numbers: &[u32]) -> Head
         close: numbers[2],
         sizes,
     }
-}
-
-pub fn fields_at(numbers: &[u32], at: usize) -> [u32; 8]
-    requires { ⌜ at + 8 ≤ length (now numbers) ⌝ }
-    ensures { λ r. ⌜ r ≡ wordsAt at 8 (now (numbers .entry)) ⌝ }
-{
-    let mut fields = [0u32; 8];
-    rows::copy_first(&numbers[at..], 8, &mut fields);
-    fields
 }

@@ -1,6 +1,6 @@
 -- A record of any kind: its row, where it is judged or a Satisfaction Order, is its line of the printed day.
 use mathlib.Core.Path.{_≡_, refl, sym, ap, _∙_}
-use mathlib.Core.Bool.{false, _&&_}
+use mathlib.Core.Bool.{true, false, _&&_}
 use mathlib.Core.List.{List, [], _∷_, _++_, flatMap, append-nil}
 use Prim.Native.Nat.{ℕ, _+_, _*_, _%_, _<_, _≤_}
 use Prim.Native.String.{String}
@@ -14,10 +14,10 @@ use Rattle.rules.specs.Journal.{History, count}
 use Rattle.rules.specs.OwnSheet.{SheetLine}
 use Rattle.rules.specs.GoodSheet.{saidAt}
 use Rattle.rules.specs.Verdicts.{verdict}
-use Rattle.rules.specs.PrintedDay.{ascii, printedLine, oneLine, sheetVerdict, judged, settled, listed}
+use Rattle.rules.specs.PrintedDay.{Printed, ascii, printedLine, oneLine, sheetVerdict, judged, settled, listed}
 use Rattle.rules.proofs.Tests.{byTest, flat-append}
 use Rattle.rules.proofs.Records.{fields-as-many, InRange}
-use Rattle.rules.proofs.Journals.{numbersIn}
+use Rattle.rules.proofs.Journals.{numbersOf, numbersIn}
 use Rattle.rows.specs.declared.Rec.{Rec}
 use Rattle.periods.specs.Periods.{Tidy}
 use Rattle.periods.proofs.Keeping.{periods-stay}
@@ -28,9 +28,9 @@ use Rattle.list.specs.Listing.{orderLetter, textFrom, Listing, RowPut, J
 use Rattle.list.proofs.Rows.{text-none, put-verdict, put-order}
 
 -- the list of no records
-pub listing-none : (h : Header) (list : List ℕ) → Listing h [] list 0
-unfolding listed flatMap
-listing-none h list = record { so = λ own. text-none own list; few = unfold numbersIn in omega arith }
+pub listing-none : (h : Header) (list : List ℕ) → Listing (λ own. listed h own []) [] list 0
+unfolding listed flatMap numbersIn
+listing-none h list = record { so = λ own. text-none own list; few = omega arith }
 
 -- ---- a verdict
 
@@ -73,24 +73,24 @@ pub ruleset judged-laws = (nothing-put, quote-put, sent-put, received-put, trade
 
 -- ---- what the day prints of one event more
 
-module _ (h : Header) (own : List SheetLine) (past : History) (e : Event) where
+module _ (h : Header) (own : List SheetLine) (lines : List Printed) (event : ℕ) (past : History) (e : Event) where
   pub listed-order : e .kind ≡ satisfactionKind
-      → flatMap printedLine (listed h own (e ∷ past))
-      ≡ flatMap printedLine (listed h own past) ++ flatMap printedLine (oneLine (length past) "F" (sheetVerdict (saidAt own (count isSatisfaction past))))
-  unfolding listed judged settled
-  listed-order k = flat-append printedLine (listed h own past) _ ∙ rw k
+      → flatMap printedLine (lines ++ (judged h event past e ++ settled own event past e))
+      ≡ flatMap printedLine lines ++ flatMap printedLine (oneLine event "F" (sheetVerdict (saidAt own (count isSatisfaction past))))
+  unfolding judged settled
+  listed-order k = flat-append printedLine lines _ ∙ rw k
 
   pub listed-other : (e .kind ≡ satisfactionKind → ⊥)
-      → flatMap printedLine (listed h own (e ∷ past)) ≡ flatMap printedLine (listed h own past) ++ flatMap printedLine (judged h past e)
-  unfolding listed settled
+      → flatMap printedLine (lines ++ (judged h event past e ++ settled own event past e)) ≡ flatMap printedLine lines ++ flatMap printedLine (judged h event past e)
+  unfolding settled
   listed-other ne =
-      flat-append printedLine (listed h own past) _ ∙ rw (ne-eqb (e .kind) satisfactionKind ne, append-nil (judged h past e))
+      flat-append printedLine lines _ ∙ rw (ne-eqb (e .kind) satisfactionKind ne, append-nil (judged h event past e))
 
--- ---- a record that is printed has four fields at least, and so six numbers
+-- ---- an event that is printed is stored as six numbers at least
 
-judged-once : (h : Header) (past : History) (e : Event) → length (judged h past e) ≤ 1
+judged-once : (h : Header) (event : ℕ) (past : History) (e : Event) → length (judged h event past e) ≤ 1
 unfolding judged
-judged-once h past e =
+judged-once h event past e =
     byTest (isQuote e && (quote e) .exchange == h .home) (λ a. rw a (omega arith)) (λ a.
     byTest (isSent e) (λ b. rw (a, b) (omega arith)) (λ b.
     byTest (isReceived e) (λ c. rw (a, b, c) (omega arith)) (λ c.
@@ -100,22 +100,29 @@ module _ (h : Header) (e : Event) (ranged : InRange h e) where
   fields-are : (k : ℕ) → e .kind ≡ k → length (e .fields) ≡ length (fieldsOf h k)
   fields-are k q = fields-as-many h _ _ (ranged .fields-fit) ∙ ap (λ (x : ℕ). length (fieldsOf h x)) q
 
-  order-numbers : e .kind ≡ satisfactionKind → 6 ≤ 2 + length (e .fields)
-  unfolding fieldsOf fieldsAmong
-  order-numbers k = omega (arith, fields-are satisfactionKind k)
+  order-numbers : e .kind ≡ satisfactionKind → 6 ≤ numbersOf e
+  unfolding fieldsOf fieldsAmong numbersOf
+  order-numbers k = rw k (omega (arith, fields-are satisfactionKind k))
 
-  judged-numbers : (past : History) → length (judged h past e) * 6 ≤ 2 + length (e .fields)
+  other-numbers : (k : ℕ) → e .kind ≡ k → (k == quoteKind) ≡ false → numbersOf e ≡ 2 + length (fieldsOf h k)
+  unfolding numbersOf
+  other-numbers k q o = rw (q, o) (omega (arith, fields-are k q))
+
+  judged-numbers : (event : ℕ) (past : History) → length (judged h event past e) * 6 ≤ numbersOf e
   unfolding fieldsOf fieldsAmong
-  judged-numbers past =
-      let one = judged-once h past e in
-      byTest (isQuote e) (λ a. omega (arith, one, fields-are quoteKind (eqb-true (e .kind) quoteKind a))) (λ a.
-      byTest (isSent e) (λ b. omega (arith, one, fields-are sentKind (eqb-true (e .kind) sentKind b))) (λ b.
-      byTest (isReceived e) (λ c. omega (arith, one, fields-are receivedKind (eqb-true (e .kind) receivedKind c))) (λ c.
-      byTest (isTrade e) (λ d. omega (arith, one, fields-are tradeKind (eqb-true (e .kind) tradeKind d))) (λ d.
+  judged-numbers event past =
+      let one = judged-once h event past e in
+      byTest (isQuote e) (λ a. quote-numbers one a) (λ a.
+      byTest (isSent e) (λ b. omega (arith, one, other-numbers sentKind (eqb-true (e .kind) sentKind b) refl)) (λ b.
+      byTest (isReceived e) (λ c. omega (arith, one, other-numbers receivedKind (eqb-true (e .kind) receivedKind c) refl)) (λ c.
+      byTest (isTrade e) (λ d. omega (arith, one, other-numbers tradeKind (eqb-true (e .kind) tradeKind d) refl)) (λ d.
       unfold judged in rw (a, b, c, d) (omega arith)))))
+    where
+      quote-numbers : length (judged h event past e) ≤ 1 → isQuote e ≡ true → length (judged h event past e) * 6 ≤ numbersOf e
+      quote-numbers one a = unfold numbersOf in rw a (omega arith)
 
 -- with k lines more
-few-more : (past : History) (e : Event) (n k n2 : ℕ) → n2 ≡ n + k → n * 6 ≤ numbersIn past → k * 6 ≤ 2 + length (e .fields) → n2 * 6 ≤ numbersIn (e ∷ past)
+few-more : (past : History) (e : Event) (n k n2 : ℕ) → n2 ≡ n + k → n * 6 ≤ numbersIn past → k * 6 ≤ numbersOf e → n2 * 6 ≤ numbersIn (e ∷ past)
 unfolding numbersIn
 few-more past e n k n2 next few told = omega arith
 
@@ -125,7 +132,7 @@ module _ (list : List ℕ) (n : ℕ) (q st periods : List ℕ) (exchanges home :
   pub no-room : length list < (n + 1) * 5 → Tidy periods → Noted list n q st periods exchanges home sizes sent trades lines event r list periods n
   no-room short tidy =
       record {
-        so = λ h e past hd reads ranged held hs stands es et el ee ln ll listing. absurd (omega arith);
+        so = λ h e past hd reads ranged held hs stands es et el ln ll printed listing. absurd (omega arith);
         kept = λ h e past hd reads held hs stands ln ll. absurd (omega arith);
         tidy = tidy;
         long = refl;
@@ -137,11 +144,11 @@ module _ (list : List ℕ) (n : ℕ) (q st periods : List ℕ) (exchanges home :
         → Noted list n q st periods exchanges home sizes sent trades lines event r list2 periods n2
     order-noted k tidy p =
         record {
-          so = λ h e past hd reads ranged held hs stands es et el ee ln ll listing.
+          so = λ h e past hd reads ranged held hs stands es et el ln ll printed listing.
               record {
                 so = λ own.
                     put-order list n event orderLetter lines 0 0 list2 n2 p own refl
-                    ∙ rw (listing .so own, el, ee) (sym (listed-order h own past e (reads .kind ∙ k)));
+                    ∙ rw (listing .so own, el) (sym (listed-order h own (printed own) event past e (reads .kind ∙ k)));
                 few = few-more past e n 1 n2 (p .next) (listing .few) (order-numbers h e ranged (reads .kind ∙ k));
               };
           kept = λ h e past hd reads held hs stands ln ll.
@@ -155,15 +162,15 @@ module _ (list : List ℕ) (n : ℕ) (q st periods : List ℕ) (exchanges home :
         → JudgedPut list n event v list2 n2 → Noted list n q st periods exchanges home sizes sent trades lines event r list2 periods2 n2
     verdict-noted ne v periods2 is p =
         record {
-          so = λ h e past hd reads ranged held hs stands es et el ee ln ll listing.
+          so = λ h e past hd reads ranged held hs stands es et el ln ll printed listing.
               record {
                 so = λ own.
                     p .so own
-                    ∙ rw (listing .so own, ee, is .so h e past hd reads held hs stands es et)
-                    (sym (listed-other h own past e (λ z. ne (sym (reads .kind) ∙ z))));
+                    ∙ rw (listing .so own, is .so h e past hd reads held hs stands es et event)
+                    (sym (listed-other h own (printed own) event past e (λ z. ne (sym (reads .kind) ∙ z))));
                 few =
-                    few-more past e n _ n2 (p .lines ∙ rw (ee, is .so h e past hd reads held hs stands es et)) (listing .few)
-                    (judged-numbers h e ranged past);
+                    few-more past e n _ n2 (p .lines ∙ rw (is .so h e past hd reads held hs stands es et event)) (listing .few)
+                    (judged-numbers h e ranged event past);
               };
           kept = λ h e past hd reads held hs stands ln ll. is .kept h e past hd reads held hs stands;
           tidy = is .tidy;

@@ -7,10 +7,10 @@ use lib.ListN.{getD, length}
 use Rattle.rules.specs.Basics.{if_then_else_, _==_, below}
 use Rattle.rules.specs.Header.{Header}
 use Rattle.rules.specs.Record.{Event, isTrade, isSent, isSatisfaction}
-use Rattle.rules.specs.Journal.{History, count}
+use Rattle.rules.specs.Journal.{History, happened, DayRecords, count}
 use Rattle.rules.specs.OwnSheet.{SheetLine}
 use Rattle.rules.specs.GoodSheet.{saidAt}
-use Rattle.rules.specs.PrintedDay.{printedLine, listed}
+use Rattle.rules.specs.PrintedDay.{Printed, printedLine, judged, settled, listed}
 use Rattle.rules.proofs.Records.{InRange}
 use Rattle.rules.proofs.Journals.{numbersIn}
 use Rattle.rows.specs.Rows.{Reads}
@@ -26,7 +26,7 @@ use Rattle.market.specs.declared.Judged.{Judged}
 abbrev pub mostRecords : ℕ
 mostRecords = 16_384
 
--- no journal has as many lines: each is told by a record of six numbers at least
+-- no journal has as many lines: each is told by an event that is stored as six numbers at least
 abbrev pub mostRows : ℕ
 mostRows = 5_462
 
@@ -63,12 +63,16 @@ rowText own list i =
 unfoldable pub textFrom : List SheetLine → List ℕ → ℕ → List ℕ
 textFrom own list n = flatMap (rowText own list) (below n)
 
--- ---- the list beside the history: whatever our own sheet will be, its rows are the lines that are printed
+-- ---- the list beside the history: whatever our own sheet will be, its rows are the lines that are printed so far
 
-pub record Listing (h : Header) (past : History) (list : List ℕ) (n : ℕ) : Type 0 where
-  pub so : (own : List SheetLine) → textFrom own list n ≡ flatMap printedLine (listed h own past)
-  -- a line is told by a record of six numbers at least
+pub record Listing (lines : List SheetLine → List Printed) (past : History) (list : List ℕ) (n : ℕ) : Type 0 where
+  pub so : (own : List SheetLine) → textFrom own list n ≡ flatMap printedLine (lines own)
+  -- a line is told by an event that is stored as six numbers at least
   pub few : n * 6 ≤ numbersIn past
+
+-- all lines of a day's records
+abbrev pub DayListing : DayRecords → List ℕ → ℕ → Type 0
+DayListing d list n = Listing (λ own. listed (d .header) own (d .records)) (happened (d .records)) list n
 
 -- ---- one row more
 
@@ -93,8 +97,9 @@ pub record JudgedPut (list : List ℕ) (n event : ℕ) (v : Judged) (list2 : Lis
 pub record Noted (list : List ℕ) (n : ℕ) (q st periods : List ℕ) (exchanges home : ℕ) (sizes : List ℕ) (sent trades lines event : ℕ) (r : Rec)
     (list2 periods2 : List ℕ) (n2 : ℕ) : Type 0 where
   pub so : (h : Header) (e : Event) (past : History) → Heads h exchanges home sizes → Reads e r → InRange h e → Quoted past q → Statuses past st
-      → Periods h past periods → sent ≡ count isSent past → trades ≡ count isTrade past → lines ≡ count isSatisfaction past → event ≡ length past
-      → n < mostRows → length list ≡ listWords → Listing h past list n → Listing h (e ∷ past) list2 n2
+      → Periods h past periods → sent ≡ count isSent past → trades ≡ count isTrade past → lines ≡ count isSatisfaction past
+      → n < mostRows → length list ≡ listWords → (printed : List SheetLine → List Printed) → Listing printed past list n
+      → Listing (λ own. printed own ++ (judged h event past e ++ settled own event past e)) (e ∷ past) list2 n2
   pub kept : (h : Header) (e : Event) (past : History) → Heads h exchanges home sizes → Reads e r → Quoted past q → Statuses past st
       → Periods h past periods → n < mostRows → length list ≡ listWords → Periods h (e ∷ past) periods2
   pub tidy : Tidy periods2

@@ -30,7 +30,7 @@ impl Row {
 
     pub const WORDS: usize = 5;
 
-    // No journal has as many lines: each is told by a record of six numbers at least.
+    // No journal has as many lines: each is told by an event that is stored as six numbers at least.
     pub const MOST: usize = 5462;
 }
 
@@ -60,7 +60,7 @@ fn put_judged(list: &mut [u32], n: usize, event: u32, v: Judged) -> usize
     }
 }
 
-// One record of any kind; `before` and `event` count what came before it. Where the list has no room nothing is
+// One event of any kind; `before` counts what came before it, and `event` the records before its own. Where the list has no room nothing is
 // judged, and no period kept: a walk that wants no list lends an empty one.
 pub fn note(
     list: &mut [u32],

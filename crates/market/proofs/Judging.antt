@@ -7,7 +7,6 @@ use native.Mathlib.Omega.{arith}
 use mir.Val.{Fits}
 use mir.Syntax.{w32}
 use lib.Dec.{eqb}
-use lib.ListN.{length}
 use borrow.Author.Tests.{eq-eqb, ne-eqb, eqb-true, not-true, not-false}
 use Rattle.rules.specs.Basics.{bit}
 use Rattle.rules.specs.Header.{Header}
@@ -109,12 +108,12 @@ module _ (q st periods : List ℕ) (n home : ℕ) (sizes : List ℕ) (sent trade
     -- a record that is neither a home quote nor a received order leaves the periods
     leaves-periods : (r .kind ≡ receivedKind → ⊥) → ((h : Header) (e : Event) → Heads h n home sizes → Reads e r → e .kind ≡ quoteKind → field e 0 ≡ h .home → ⊥) → (a : Judged)
         → ((h : Header) (e : Event) (past : History) → Heads h n home sizes → Reads e r → Quoted past q → Statuses past st → sent ≡ count isSent past → trades ≡ count isTrade past
-        → judgedAs (length past) a ≡ judged h past e)
+        → (event : ℕ) → judgedAs event a ≡ judged h event past e)
         → JudgedIs q st periods n home sizes sent trades r periods a
     leaves-periods n6 away a so =
         record {
           tidy = tidy;
-          so = λ h e past hd reads held hs stands es et. so h e past hd reads held hs es et;
+          so = λ h e past hd reads held hs stands es et event. so h e past hd reads held hs es et event;
           kept = λ h e past hd reads held hs stands. periods-stay h e past periods (λ z. n6 (sym (reads .kind) ∙ z)) (away h e hd reads) stands;
         }
 
@@ -132,7 +131,7 @@ module _ (q st periods : List ℕ) (n home : ℕ) (sizes : List ℕ) (sent trade
     judged-away z tidy =
         leaves-periods tidy (λ y. omega (arith, y, k1))
         (λ h e hd reads k mine. true≢false (sym (eq-eqb (field e 0) (h .home) mine) ∙ home-is h e hd reads ∙ not-true b z)) Nothing
-        (λ h e past hd reads held hs es et.
+        (λ h e past hd reads held hs es et event.
         rw (home-is h e hd reads ∙ not-true b z, and-false (eqb (e .kind) 1), kind-other r e reads 1 4 k1 (λ z. omega arith), kind-other r e reads 1 6 k1 (λ z. omega arith), kind-other r e reads 1 3 k1 (λ z. omega arith)))
 
     pub judged-home : not b ≡ false → (v : Against) (a : Judged) → QuoteSays v a → (w : HomeQuote) → AgainstIs q n home w v → QuoteIs r w → (periods2 : List ℕ) → Requoted r periods periods2
@@ -141,9 +140,9 @@ module _ (q st periods : List ℕ) (n home : ℕ) (sizes : List ℕ) (sent trade
     judged-home z v a says w against is periods2 marked =
         record {
           tidy = marked .tidy;
-          so = λ h e past hd reads held hs stands es et.
+          so = λ h e past hd reads held hs stands es et event.
               rw (kind-is r e reads 1 k1, home-is h e hd reads ∙ not-false b z)
-              (says .so (length past) ∙ ap (oneLine (length past) "Q") (against .so h past (paper.quote e) (hd .exchanges) (hd .home) (quote-is r e reads w is) held));
+              (says .so event ∙ ap (oneLine event "Q") (against .so h past (paper.quote e) (hd .exchanges) (hd .home) (quote-is r e reads w is) held));
           kept = λ h e past hd reads held hs stands.
               marked .kept h e past reads (reads .kind ∙ k1) (eqb-true (field e 0) (h .home) (home-is h e hd reads ∙ not-false b z)) stands;
         }
@@ -154,9 +153,9 @@ module _ (q st periods : List ℕ) (n home : ℕ) (sizes : List ℕ) (sent trade
     unfolding judged
     judged-sent k tidy v a says o is taken =
         leaves-periods tidy (λ y. omega (arith, y, k)) (no-quote tidy n1) a
-        (λ h e past hd reads held hs es et.
+        (λ h e past hd reads held hs es et event.
         rw (kind-not r e reads 1 n1, kind-is r e reads 4 k, ← es)
-        (says .so (length past) ∙ ap (λ y. oneLine (length past) "S" (verdict y sent 0)) (is .so h past (hd .exchanges) held ∙ ap (sentOrder h past) (order-is r e reads o taken))))
+        (says .so event ∙ ap (λ y. oneLine event "S" (verdict y sent 0)) (is .so h past (hd .exchanges) held ∙ ap (sentOrder h past) (order-is r e reads o taken))))
 
     module _ (n4 : r .kind ≡ sentKind → ⊥) where
       pub judged-received : r .kind ≡ receivedKind → (v : Duty) (a : Judged) → DutySays v a → (periods2 : List ℕ) → ReceivedIs q st periods n home sizes r periods2 v
@@ -165,9 +164,9 @@ module _ (q st periods : List ℕ) (n home : ℕ) (sizes : List ℕ) (sent trade
       judged-received k v a says periods2 is =
           record {
             tidy = is .tidy;
-            so = λ h e past hd reads held hs stands es et.
+            so = λ h e past hd reads held hs stands es et event.
                 rw (kind-not r e reads 1 n1, kind-not r e reads 4 n4, kind-is r e reads 6 k)
-                (says .so (length past) ∙ ap (oneLine (length past) "R") (is .so h e past hd reads held hs stands));
+                (says .so event ∙ ap (oneLine event "R") (is .so h e past hd reads held hs stands));
             kept = is .kept;
           }
 
@@ -177,7 +176,7 @@ module _ (q st periods : List ℕ) (n home : ℕ) (sizes : List ℕ) (sent trade
         unfolding judged judgedAs
         judged-trade k tidy c y t counted b block ey is =
             leaves-periods tidy n6 (no-quote tidy n1) (T trades c y)
-            (λ h e past hd reads held hs es et.
+            (λ h e past hd reads held hs es et event.
             let same = trade-is r e reads t is in
             rw (kind-not r e reads 1 n1, kind-not r e reads 4 n4, kind-not r e reads 6 n6, kind-is r e reads 3 k, ← et, ← counted .so h past (paper.trade e) (hd .exchanges) (hd .home) same held, ← block .so h past (paper.trade e) (hd .exchanges) same held, ey))
 
@@ -185,7 +184,7 @@ module _ (q st periods : List ℕ) (n home : ℕ) (sizes : List ℕ) (sent trade
         unfolding judged judgedAs
         judged-other n3 tidy =
             leaves-periods tidy n6 (no-quote tidy n1) Nothing
-            (λ h e past hd reads held hs es et.
+            (λ h e past hd reads held hs es et event.
             rw (kind-not r e reads 1 n1, kind-not r e reads 4 n4, kind-not r e reads 6 n6, kind-not r e reads 3 n3))
 
 -- ---- what the callees require

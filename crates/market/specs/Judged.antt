@@ -2,7 +2,6 @@
 use mathlib.Core.Path.{_≡_}
 use mathlib.Core.List.{List, [], _∷_}
 use Prim.Native.Nat.{ℕ}
-use lib.ListN.{length}
 use Rattle.rules.specs.Header.{Header}
 use Rattle.rules.specs.Record.{Event, isSent, isTrade}
 use Rattle.rules.specs.Journal.{History, count}
@@ -44,6 +43,6 @@ pub record DutySays (v : Duty) (r : Judged) : Type 0 where
 pub record JudgedIs (q st periods : List ℕ) (n home : ℕ) (sizes : List ℕ) (sent trades : ℕ) (r : Rec) (periods2 : List ℕ) (a : Judged) : Type 0 where
   pub tidy : Tidy periods2
   pub so : (h : Header) (e : Event) (past : History) → Heads h n home sizes → Reads e r → Quoted past q → Statuses past st → Periods h past periods
-      → sent ≡ count isSent past → trades ≡ count isTrade past → judgedAs (length past) a ≡ judged h past e
+      → sent ≡ count isSent past → trades ≡ count isTrade past → (event : ℕ) → judgedAs event a ≡ judged h event past e
   pub kept : (h : Header) (e : Event) (past : History) → Heads h n home sizes → Reads e r → Quoted past q → Statuses past st → Periods h past periods
       → Periods h (e ∷ past) periods2

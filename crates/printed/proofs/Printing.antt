@@ -8,7 +8,7 @@ use mir.Syntax.{w64}
 use lib.ListN.{getD, length, length-append}
 use borrow.Author.Tests.{eq-eqb, ne-eqb}
 use Rattle.rules.specs.Basics.{below}
-use Rattle.rules.specs.Journal.{Journal}
+use Rattle.rules.specs.Journal.{Journal, DayRecords, journalOf}
 use Rattle.rules.specs.Due.{lines}
 use Rattle.rules.specs.GoodSheet as sheet
 use Rattle.rules.specs.OwnSheet.{SheetLine, ownFill, ownLine, ownLines}
@@ -20,7 +20,7 @@ use Rattle.text.specs.declared.Written.the-variants.{To, Refused}
 use Rattle.text.proofs.Lent.{wrote-length, wrote-none, wrote-then, writes-short, writes-all}
 use Rattle.claims.specs.Lines.{lineAt, linesFrom}
 use Rattle.claims.specs.Books.{Books, OwnFilled}
-use Rattle.list.specs.Listing.{mostRows, mostText, letterAt, wordAt, orderLetter, rowText, textFrom, Listing}
+use Rattle.list.specs.Listing.{mostRows, mostText, letterAt, wordAt, orderLetter, rowText, textFrom, DayListing}
 use Rattle.list.proofs.Rows.{text-none, text-more, text-longer}
 use Rattle.printed.specs.Printing.{tableLine, sheetFrom, shownText, OrderShown, RowShown, Prints}
 use Rattle.printed.specs.declared.Shown.{Shown}
@@ -143,16 +143,17 @@ module _ (list : List ℕ) (n : ℕ) (cl fills : List ℕ) (lines : ℕ) (s : Li
   abbrev whole : List ℕ
   whole = firstLine ++ textFrom (sheetFrom cl fills lines) list n
 
-  whole-is : (j : Journal) (tr : List ℕ) (trades : ℕ) → Books j tr cl trades lines → OwnFilled j fills → Listing (j .header) (j .history) list n → whole ≡ dayText j
+  whole-is : (d : DayRecords) (tr : List ℕ) (trades : ℕ) → Books (journalOf d) tr cl trades lines → OwnFilled (journalOf d) fills → DayListing d list n → whole ≡ dayText d
   unfolding dayText
-  whole-is j tr trades books own listing =
-      ap (λ t. firstLine ++ t) (listing .so (sheetFrom cl fills lines) ∙ ap (λ l. flatMap printedLine (listed (j .header) l (j .history))) (sheet-is j tr cl trades lines fills books own))
+  whole-is d tr trades books own listing =
+      ap (λ t. firstLine ++ t)
+      (listing .so (sheetFrom cl fills lines) ∙ ap (λ l. flatMap printedLine (listed (d .header) l (d .records))) (sheet-is (journalOf d) tr cl trades lines fills books own))
 
-  written-prints : (r : Written) (d : List ℕ) → Writes s whole r d → Prints list n cl fills lines s r d
-  written-prints r d w =
+  written-prints : (r : Written) (after : List ℕ) → Writes s whole r after → Prints list n cl fills lines s r after
+  written-prints r after w =
       record {
-        so = λ j tr trades books own listing.
-            let v = subst (λ t. Writes s t r d) (whole-is j tr trades books own listing) w in (v .answer, v .lent);
+        so = λ d tr trades books own listing.
+            let v = subst (λ t. Writes s t r after) (whole-is d tr trades books own listing) w in (v .answer, v .lent);
       }
 
   module _ (first rest : ℕ) (a : Takes firstLine 17 first) (b : Takes (textFrom (sheetFrom cl fills lines) list n) mostText rest) where

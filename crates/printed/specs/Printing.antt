@@ -4,7 +4,7 @@ use mathlib.Core.List.{List, map}
 use Prim.Native.Nat.{ℕ, _+_, _-_, _*_}
 use lib.ListN.{getD, length}
 use Rattle.rules.specs.Basics.{below}
-use Rattle.rules.specs.Journal.{Journal}
+use Rattle.rules.specs.Journal.{DayRecords, journalOf}
 use Rattle.rules.specs.OwnSheet.{SheetLine}
 use Rattle.rules.specs.GoodSheet.{saidAt}
 use Rattle.rules.specs.PrintedDay.{dayText}
@@ -13,7 +13,7 @@ use Rattle.text.specs.Lent.{asAnswer, counted}
 use Rattle.text.specs.Lines.{lineOf}
 use Rattle.text.specs.declared.Written.{Written}
 use Rattle.claims.specs.Books.{Books, OwnFilled}
-use Rattle.list.specs.Listing.{orderText, rowText, Listing}
+use Rattle.list.specs.Listing.{orderText, rowText, DayListing}
 use Rattle.printed.specs.declared.Shown.{Shown}
 
 -- ---- our own sheet
@@ -37,5 +37,5 @@ pub record RowShown (own : List SheetLine) (list : List ℕ) (i : ℕ) (r : Show
   pub says : shownText r ≡ rowText own list i
 
 pub record Prints (list : List ℕ) (n : ℕ) (cl fills : List ℕ) (lines : ℕ) (before : List ℕ) (r : Written) (after : List ℕ) : Type 0 where
-  pub so : (j : Journal) (tr : List ℕ) (trades : ℕ) → Books j tr cl trades lines → OwnFilled j fills → Listing (j .header) (j .history) list n
-      → (asAnswer r ≡ counted (into (length before) (dayText j))) × (after ≡ lentAfter (into (length before) (dayText j)) before)
+  pub so : (d : DayRecords) (tr : List ℕ) (trades : ℕ) → Books (journalOf d) tr cl trades lines → OwnFilled (journalOf d) fills → DayListing d list n
+      → (asAnswer r ≡ counted (into (length before) (dayText d))) × (after ≡ lentAfter (into (length before) (dayText d)) before)

@@ -22,6 +22,11 @@ unfolding _>>=_
 went (refused n p) f {b} e = absurd (refused-not-ok n p b e)
 went (ok a) f e = record { value = a; got = refl; rest = e }
 
+-- .. and the way back
+pub goes-on : {A B : Type 0} (m : Answer A) (f : A → Answer B) {a : A} → m ≡ ok a → (m >>= f) ≡ f a
+unfolding _>>=_
+goes-on m f e = rw e
+
 -- a demand that was met
 pub met : (t : Bool) (n p : ℕ) {b : Passed} → demand t n p ≡ ok b → t ≡ true
 unfolding demand

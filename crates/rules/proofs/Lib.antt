@@ -5,6 +5,7 @@ pub mod Histories
 pub mod Numbers
 pub mod Records
 pub mod Journals
+pub mod Batches
 pub mod Totals
 pub mod Otherwise
 pub mod Lines

@@ -1,4 +1,4 @@
--- What a kind is and what belongs, but for the records that document 02 brought (8, 9, 11): document 01's.
+-- What a kind is and what belongs, but for the records that document 02 brought (8, 9, 10, 11): document 01's.
 use mathlib.Core.Path.{_≡_, refl}
 use mathlib.Core.Bool.{true, false, true≢false, and-false}
 use Prim.Native.Nat.{ℕ, zero, suc, _≤_, _<_}
@@ -6,7 +6,7 @@ use native.Mathlib.Omega.{arith}
 use borrow.Author.Tests.{lt-leb, ne-eqb}
 use Rattle.rules.specs.Basics.{if_then_else_, _==_, _atLeast_, within, any}
 use Rattle.rules.specs.Header.{Header}
-use Rattle.rules.specs.Record.{quoteKind, satisfactionKind, namingKind, closingKind, cancellationKind, known, Event, isResponse, isSatisfaction, isNaming, isClosing, isCancellation}
+use Rattle.rules.specs.Record.{quoteKind, satisfactionKind, namingKind, closingKind, batchKind, cancellationKind, known, Event, isResponse, isSatisfaction, isNaming, isClosing, isCancellation}
 use Rattle.rules.specs.Journal.{History, responseBelongs, satisfactionBelongs, belongs}
 
 unknown-beyond : (h : Header) (k : ℕ) → cancellationKind < k → known h k ≡ within quoteKind satisfactionKind k
@@ -23,27 +23,28 @@ unknown-beyond h k high =
       other 7 (omega arith),
       other 8 (omega arith),
       other 9 (omega arith),
+      other 10 (omega arith),
       other 11 (omega arith),
       lt-leb k satisfactionKind (omega arith),
       and-false (k atLeast quoteKind),
     )
 
-pub known-otherwise : (h : Header) (k : ℕ) → (k == namingKind) ≡ false → (k == closingKind) ≡ false → (k == cancellationKind) ≡ false
+pub known-otherwise : (h : Header) (k : ℕ) → (k == namingKind) ≡ false → (k == closingKind) ≡ false → (k == batchKind) ≡ false → (k == cancellationKind) ≡ false
     → known h k ≡ within quoteKind satisfactionKind k
 unfolding known any
-known-otherwise h zero named closed taken = refl
-known-otherwise h (suc zero) named closed taken = refl
-known-otherwise h (suc (suc zero)) named closed taken = refl
-known-otherwise h (suc (suc (suc zero))) named closed taken = refl
-known-otherwise h (suc (suc (suc (suc zero)))) named closed taken = refl
-known-otherwise h (suc (suc (suc (suc (suc zero))))) named closed taken = refl
-known-otherwise h (suc (suc (suc (suc (suc (suc zero)))))) named closed taken = refl
-known-otherwise h (suc (suc (suc (suc (suc (suc (suc zero))))))) named closed taken = refl
-known-otherwise h (suc (suc (suc (suc (suc (suc (suc (suc zero)))))))) named closed taken = absurd (true≢false named)
-known-otherwise h (suc (suc (suc (suc (suc (suc (suc (suc (suc zero))))))))) named closed taken = absurd (true≢false closed)
-known-otherwise h (suc (suc (suc (suc (suc (suc (suc (suc (suc (suc zero)))))))))) named closed taken = refl
-known-otherwise h (suc (suc (suc (suc (suc (suc (suc (suc (suc (suc (suc zero))))))))))) named closed taken = absurd (true≢false taken)
-known-otherwise h (suc (suc (suc (suc (suc (suc (suc (suc (suc (suc (suc (suc k)))))))))))) named closed taken =
+known-otherwise h zero named closed batched taken = refl
+known-otherwise h (suc zero) named closed batched taken = refl
+known-otherwise h (suc (suc zero)) named closed batched taken = refl
+known-otherwise h (suc (suc (suc zero))) named closed batched taken = refl
+known-otherwise h (suc (suc (suc (suc zero)))) named closed batched taken = refl
+known-otherwise h (suc (suc (suc (suc (suc zero))))) named closed batched taken = refl
+known-otherwise h (suc (suc (suc (suc (suc (suc zero)))))) named closed batched taken = refl
+known-otherwise h (suc (suc (suc (suc (suc (suc (suc zero))))))) named closed batched taken = refl
+known-otherwise h (suc (suc (suc (suc (suc (suc (suc (suc zero)))))))) named closed batched taken = absurd (true≢false named)
+known-otherwise h (suc (suc (suc (suc (suc (suc (suc (suc (suc zero))))))))) named closed batched taken = absurd (true≢false closed)
+known-otherwise h (suc (suc (suc (suc (suc (suc (suc (suc (suc (suc zero)))))))))) named closed batched taken = absurd (true≢false batched)
+known-otherwise h (suc (suc (suc (suc (suc (suc (suc (suc (suc (suc (suc zero))))))))))) named closed batched taken = absurd (true≢false taken)
+known-otherwise h (suc (suc (suc (suc (suc (suc (suc (suc (suc (suc (suc (suc k)))))))))))) named closed batched taken =
     unknown-beyond h (suc (suc (suc (suc (suc (suc (suc (suc (suc (suc (suc (suc k)))))))))))) (omega arith)
 
 pub belongs-otherwise : (h : Header) (past : History) (e : Event) → isNaming e ≡ false → isClosing e ≡ false → isCancellation e ≡ false

@@ -7,8 +7,8 @@ use mathlib.Core.List.{List, [], _∷_, _++_, flatMap}
 use lib.ListN.{length, getD}
 use Rattle.rules.specs.Basics.{if_then_else_, _==_, _lessThan_, Answer, refused, ok, bit}
 use Rattle.rules.specs.Header.{Header}
-use Rattle.rules.specs.Record.{Event, quote, trade, order, isQuote, isTrade, isSent, isReceived, isSatisfaction}
-use Rattle.rules.specs.Journal.{History, Journal, journal, count}
+use Rattle.rules.specs.Record.{Event, told, quote, trade, order, isQuote, isTrade, isSent, isReceived, isSatisfaction}
+use Rattle.rules.specs.Journal.{History, Records, happened, DayRecords, journalOf, dayRecords, count}
 use Rattle.rules.specs.Verdicts.{Verdict, verdict, homeQuote, sentOrder, receivedOrder, throughs, isBlock}
 use Rattle.rules.specs.OwnSheet.{SheetLine, ownLines}
 
@@ -53,12 +53,11 @@ printedLine p =
 abbrev pub oneLine : ℕ → String → Verdict → List Printed
 oneLine n what v = record { event = n; what = what; says = v } ∷ []
 
--- ---- what is printed of an event, after the history before it. "Event counts records from 0."
+-- ---- what is printed of an event of record n, after the history before it. "Event counts records from 0."
 
 -- Q, S, R, T. "Away quotes, statuses and responses print nothing."; document 02, a: "It prints nothing, nor do kinds 8 and 11."
-unfoldable pub judged : Header → History → Event → List Printed
-judged h past e =
-    let n = length past in
+unfoldable pub judged : Header → ℕ → History → Event → List Printed
+judged h n past e =
     if isQuote e && (quote e) .exchange == h .home then oneLine n "Q" (homeQuote h past (quote e))
     else if isSent e then oneLine n "S" (verdict (sentOrder h past (order e)) (count isSent past) 0)
     else if isReceived e then oneLine n "R" (receivedOrder h past e)
@@ -70,31 +69,37 @@ judged h past e =
 abbrev pub sheetVerdict : SheetLine → Verdict
 sheetVerdict s = verdict (s .reason) (s .filled) (s .cancelled)
 
-unfoldable pub settled : List SheetLine → History → Event → List Printed
-settled own past e =
+unfoldable pub settled : List SheetLine → ℕ → History → Event → List Printed
+settled own n past e =
     if isSatisfaction e then
-    oneLine (length past) "F" (sheetVerdict (getD own (count isSatisfaction past) (record { reason = 0; filled = 0; cancelled = 0 })))
+    oneLine n "F" (sheetVerdict (getD own (count isSatisfaction past) (record { reason = 0; filled = 0; cancelled = 0 })))
     else []
 
+-- of the events that record n tells of, one after the other. Document 02, e: "For home, each prints its own Q line with the one
+-- event number."
+unfoldable pub shown : Header → List SheetLine → ℕ → History → List Event → List Printed
+shown h own n past [] = []
+shown h own n past (e ∷ es) = (judged h n past e ++ settled own n past e) ++ shown h own n (e ∷ past) es
+
 -- the list, in the order of the journal
-unfoldable pub listed : Header → List SheetLine → History → List Printed
+unfoldable pub listed : Header → List SheetLine → Records → List Printed
 listed h own [] = []
-listed h own (e ∷ past) = listed h own past ++ (judged h past e ++ settled own past e)
+listed h own (r ∷ records) = listed h own records ++ shown h own (length records) (happened records) (told r)
 
 -- "the first line is always `event what a b c`"
 unfoldable pub firstLine : List ℕ
 firstLine = ended (ascii "event what a b c")
 
-unfoldable pub dayText : Journal → List ℕ
-dayText j = firstLine ++ flatMap printedLine (listed (j .header) (ownLines j) (j .history))
+unfoldable pub dayText : DayRecords → List ℕ
+dayText d = firstLine ++ flatMap printedLine (listed (d .header) (ownLines (journalOf d)) (d .records))
 
 -- "`refused 2 at 0` (number, place)"
 unfoldable pub refusalText : ℕ → ℕ → List ℕ
 refusalText n p = ended (space (ascii "refused") (space (decimal n) (space (ascii "at") (decimal p))))
 
-unfoldable pub printedAnswer : Answer Journal → List ℕ
+unfoldable pub printedAnswer : Answer DayRecords → List ℕ
 printedAnswer (refused n p) = refusalText n p
-printedAnswer (ok j) = dayText j
+printedAnswer (ok d) = dayText d
 
 unfoldable pub printedDay : List ℕ → List ℕ
-printedDay bytes = printedAnswer (journal bytes)
+printedDay bytes = printedAnswer (dayRecords bytes)

@@ -2,8 +2,8 @@
 -- proofs/Sentences.antt shows that each row's two sides are the same.
 use Prim.Native.Nat.{ℕ, _-_}
 use Prim.Native.String.{String}
-use mathlib.Core.List.{List, [], _∷_, _++_}
-use lib.ListN.{take, drop, replicate}
+use mathlib.Core.List.{List, [], _∷_, _++_, flatMap}
+use lib.ListN.{length, take, drop, replicate}
 use Rattle.rules.specs.Basics.{Answer, refused, ok}
 use Rattle.rules.specs.Limits.{mostJournalBytes}
 use Rattle.rules.specs.Record.{Entry, entryBytes}
@@ -12,12 +12,18 @@ use Rattle.rules.specs.Due.{lines, ofTrade, claimsOf, due}
 use Rattle.rules.specs.OwnSheet.{ownSheet}
 use Rattle.rules.specs.SheetCheck.{checkSheet}
 use Rattle.rules.specs.PrintedDay.{firstLine, printedDay, ascii}
-use Rattle.rules.specs.Examples.{Example, example, theClose, written, bids, trades, claims, prints, only, dayD}
+use Rattle.rules.specs.Writing.{writeRecord}
+use Rattle.rules.specs.Examples.{Example, example, theClose, fourExchanges, written, bids, trades, claims, prints, only, dayD}
 
 -- a refusal as its number and place, anything else as nothing
 abbrev pub refusal : {A : Type 0} → Answer A → List ℕ
 refusal (refused n p) = n ∷ p ∷ []
 refusal (ok a) = []
+
+-- .. or the bytes that were written
+abbrev pub refusalOr : Answer (List ℕ) → List ℕ
+refusalOr (refused n p) = n ∷ p ∷ []
+refusalOr (ok bytes) = bytes
 
 abbrev pub ownOf : Answer Journal → List ℕ
 ownOf (refused n p) = n ∷ p ∷ []
@@ -131,6 +137,37 @@ executedThen more = bidding (sells 0 2 0 10 ∷ more)
 abbrev pub printsOrders : ℕ → String → List (List ℕ) → Example
 printsOrders n rest records = example n (printedDay (written records)) (ascii "event what a b c\n0 Q 0 0 0\n1 Q 0 0 0\n" ++ ascii rest)
 
+-- ---- document 02, e. Quotes of one exchange at once, out of these: in a series a bid for 30 contracts, all of customers; an offer of 30; a
+-- bid for none, which is 6.
+
+abbrev pub bidIn : ℕ → ℕ → List ℕ
+bidIn series price = series ∷ price ∷ 30 ∷ 30 ∷ 0 ∷ 0 ∷ 0 ∷ []
+
+abbrev pub offerIn : ℕ → ℕ → List ℕ
+offerIn series price = series ∷ 0 ∷ 0 ∷ 0 ∷ price ∷ 30 ∷ 0 ∷ []
+
+abbrev pub bidOfNone : List ℕ
+bidOfNone = 0 ∷ 110 ∷ 0 ∷ 0 ∷ 0 ∷ 0 ∷ 0 ∷ []
+
+abbrev pub quotesAtOnce : ℕ → List (List ℕ) → List ℕ
+quotesAtOnce x quotes = 10 ∷ 0 ∷ x ∷ length quotes ∷ flatMap (λ q. q) quotes
+
+-- exchange 2 bids 110, home sends it an order for that bid, then come these quotes of exchange 2; more than 20 seconds later home trades at 100,
+-- and exchange 2 claims
+abbrev pub sentThenQuotes : List (List ℕ) → List (List ℕ)
+sentThenQuotes quotes =
+    bids 2 110 30 ∷ (4 ∷ 0 ∷ 1 ∷ 2 ∷ 0 ∷ 2 ∷ 110 ∷ 5 ∷ []) ∷ quotesAtOnce 2 quotes ∷ trades 20_001 100 30 0 ∷ claims 0 2 110 30 ∷ []
+
+-- the same with two quotes in other series 10 seconds after the order, and the trade so much later
+abbrev pub sentThenLater : ℕ → List (List ℕ)
+sentThenLater wait =
+    bids 2 110 30 ∷ (4 ∷ 0 ∷ 1 ∷ 2 ∷ 0 ∷ 2 ∷ 110 ∷ 5 ∷ []) ∷ (10 ∷ 10_000 ∷ 2 ∷ 2 ∷ bidIn 1 100 ++ bidIn 2 100)
+    ∷ trades wait 100 30 0 ∷ claims 0 2 110 30 ∷ []
+
+-- what the writer of a record of kind 10 answers to such fields: its refusal, or the bytes
+abbrev pub batchWritten : List ℕ → List ℕ
+batchWritten fields = refusalOr (writeRecord fourExchanges 0 (record { kind = 10; elapsed = 0; fields = fields }) 100)
+
 unfoldable pub sentences : List Example
 sentences =
     -- "An empty journal is refused 2 at 0."
@@ -164,9 +201,9 @@ sentences =
     ∷ example 22 (printedDay (headerD ++ closes)) firstLine
     -- "a second kind 9 is 7"
     ∷ example 23 (refusal (journal (headerD ++ closes ++ closes))) (7 ∷ 12 ∷ [])
-    -- kinds 0 and 10 are unknown
+    -- kinds 0 and 12 are unknown
     ∷ example 24 (refusal (journal (headerD ++ (0 ∷ 0 ∷ [])))) (4 ∷ 10 ∷ [])
-    ∷ example 25 (refusal (journal (headerD ++ (10 ∷ 0 ∷ [])))) (4 ∷ 10 ∷ [])
+    ∷ example 25 (refusal (journal (headerD ++ (12 ∷ 0 ∷ [])))) (4 ∷ 10 ∷ [])
     -- "up to and including 180,000 ms after receiving it"; "with claim 0", and due totals follow; "a late one cancels and changes nothing"
     ∷ prints 26 "event what a b c\n2 T 0 2 0\n3 F 14 0 30\n4 F 0 30 0\n" (cancelledAfter 0 180_000)
     ∷ example 27 (claimed (journal (written (cancelledAfter 0 180_000)))) (0 ∷ 30 ∷ 30 ∷ [])
@@ -240,7 +277,7 @@ sentences =
     -- "A later whole execution of an order judged as a first one starts a new period in the old one's place."
     ∷ printsOrders 76 "2 R 1 10 0\n3 R 1 5 0\n4 R 0 0 4\n5 R 2 5 0\n" (executedThen (sells 60_001 2 0 5 ∷ sells 15_000 2 0 5 ∷ sells 1 2 0 5 ∷ []))
     ∷ printsOrders 77 "2 R 1 10 0\n3 Q 0 0 0\n4 R 1 5 0\n5 R 0 0 4\n" (executedThen (homeBids 0 101 ∷ sells 10_000 2 1 5 ∷ sells 10_000 2 1 5 ∷ []))
-    -- "that we had to execute whole": one above the firm size begins none, and leaves the one that stands
+    -- "that we had to execute whole": one above the firm size begins none
     ∷ printsOrders 78 "2 R 2 10 0\n3 R 1 10 0\n" (bidding (sells 0 2 0 11 ∷ sells 0 2 0 10 ∷ []))
     ∷ printsOrders 79 "2 R 1 10 0\n3 Q 0 0 0\n4 R 2 10 0\n5 R 1 5 0\n" (executedThen (homeBids 0 101 ∷ sells 0 2 1 11 ∷ sells 0 2 1 5 ∷ []))
     -- "from the same sender"; "P/A orders stay as they are", within a period and before one
@@ -250,4 +287,36 @@ sentences =
     ∷ printsOrders 82 "2 R 1 10 0\n3 R 0 0 1\n4 R 0 0 1\n" (executedThen (sellsAt 101 15_000 2 0 5 ∷ sellsAt 101 1 2 0 5 ∷ []))
     ∷ printsOrders 83 "2 R 1 10 0\n4 R 0 0 2\n5 R 0 0 2\n" (executedThen (bids 3 101 5 ∷ sells 15_000 2 0 5 ∷ sells 1 2 0 5 ∷ []))
     ∷ printsOrders 84 "2 R 1 10 0\n4 R 0 0 3\n5 R 0 0 3\n" (executedThen ((2 ∷ 0 ∷ 1 ∷ 1 ∷ []) ∷ sells 15_000 2 0 5 ∷ sells 1 2 0 5 ∷ []))
+    -- "that we had to execute whole": one above the firm size does not end the period that stands either; once home's price there is no longer
+    -- the best, reason 4 is back
+    ∷ printsOrders 85 "2 R 1 10 0\n3 Q 0 0 0\n4 R 2 10 0\n6 R 0 0 4\n" (executedThen (homeBids 0 101 ∷ sells 0 2 1 11 ∷ bids 3 102 5 ∷ sells 0 2 1 5 ∷ []))
+    -- document 02, e: "For home, each prints its own Q line with the one event number"; "a series may come twice": each is judged
+    ∷ prints 86 "event what a b c\n1 Q 2 2 2\n1 Q 1 2 2\n1 Q 0 0 0\n2 Q 0 0 0\n"
+    (bids 2 110 30 ∷ quotesAtOnce 1 (offerIn 0 109 ∷ offerIn 0 110 ∷ offerIn 1 50 ∷ []) ∷ homeBids 1 40 ∷ [])
+    -- "Its verdicts and end state equal those of so many kind 1 records": the last one of a series stands
+    ∷ prints 87 "event what a b c\n1 T 0 1 0\n2 F 0 30 0\n" (quotesAtOnce 2 (bidIn 0 120 ∷ bidIn 0 110 ∷ []) ∷ trades 0 100 30 0 ∷ claims 0 2 110 30 ∷ [])
+    -- .. an earlier one ends reason 2, where it is in the series
+    ∷ prints 88 "event what a b c\n1 S 0 0 0\n3 T 0 1 0\n4 F 0 30 0\n" (sentThenQuotes (bidIn 0 109 ∷ bidIn 0 110 ∷ []))
+    ∷ prints 89 "event what a b c\n1 S 0 0 0\n3 T 0 1 0\n4 F 2 0 30\n" (sentThenQuotes (bidIn 1 109 ∷ bidIn 0 110 ∷ []))
+    -- .. and is a later home quote for a second principal order
+    ∷ printsOrders 90 "2 R 1 10 0\n3 Q 0 0 0\n3 Q 0 0 0\n4 R 1 5 0\n" (executedThen (quotesAtOnce 1 (bidIn 0 99 ∷ bidIn 0 100 ∷ []) ∷ sells 0 2 1 5 ∷ []))
+    -- "a count out of range is 5, found before the quotes are read": 0, 33, and none of the quotes stands there
+    ∷ example 91 (refusal (journal (written ((10 ∷ 0 ∷ 2 ∷ 0 ∷ []) ∷ [])))) (5 ∷ 14 ∷ [])
+    ∷ example 92 (refusal (journal (written ((10 ∷ 0 ∷ 2 ∷ 33 ∷ []) ∷ [])))) (5 ∷ 14 ∷ [])
+    ∷ example 93 (refusal (journal (written (quotesAtOnce 2 (replicate 32 (bidIn 0 110)) ∷ [])))) []
+    -- "then all quotes are read (2, at the number's first byte)", though there is no exchange 5 and the first has no series 32
+    ∷ example 94 (refusal (journal (written ((10 ∷ 0 ∷ 5 ∷ 2 ∷ bidIn 32 110 ++ (0 ∷ 110 ∷ [])) ∷ [])))) (2 ∷ 27 ∷ [])
+    -- "and the first that kind 1 would refuse gives its 5 or 6 at the batch's start"
+    ∷ example 95 (refusal (journal (written (quotesAtOnce 2 (bidOfNone ∷ bidIn 32 110 ∷ []) ∷ [])))) (6 ∷ 14 ∷ [])
+    ∷ example 96 (refusal (journal (written (quotesAtOnce 2 (bidIn 32 110 ∷ bidOfNone ∷ []) ∷ [])))) (5 ∷ 14 ∷ [])
+    -- exchange and the day's time are among that: 5 before 6
+    ∷ example 97 (refusal (journal (written (quotesAtOnce 5 (bidOfNone ∷ []) ∷ [])))) (5 ∷ 14 ∷ [])
+    ∷ example 98 (refusal (journal (written ((9 ∷ 86_399_999 ∷ []) ∷ (10 ∷ 1 ∷ 2 ∷ 1 ∷ bidIn 0 110) ∷ [])))) (5 ∷ 19 ∷ [])
+    -- the writer answers as the reader does; given fewer numbers than the count asks for, 5, and those beyond do not count
+    ∷ example 99 (batchWritten (2 ∷ 2 ∷ bidOfNone ++ bidIn 32 110)) (6 ∷ 0 ∷ [])
+    ∷ example 100 (batchWritten (2 ∷ 2 ∷ bidOfNone)) (5 ∷ 0 ∷ [])
+    ∷ example 101 (batchWritten (2 ∷ 1 ∷ bidIn 0 110 ++ (7 ∷ []))) (quotesAtOnce 2 (bidIn 0 110 ∷ []))
+    -- "the later ones with zero elapsed time": the batch's 10,000 ms count once, so the order is 20,000 ms old at the trade; one more is reason 2
+    ∷ prints 102 "event what a b c\n1 S 0 0 0\n3 T 0 1 0\n4 F 0 30 0\n" (sentThenLater 10_000)
+    ∷ prints 103 "event what a b c\n1 S 0 0 0\n3 T 0 1 0\n4 F 2 0 30\n" (sentThenLater 10_001)
     ∷ []

@@ -1,5 +1,6 @@
 //! Journals grown record by record from what a market does, so that every verdict, reason and share comes up.
 
+use super::batching::Last;
 use super::chance::Chance;
 use super::values;
 use crate::header::Header;
@@ -90,6 +91,10 @@ pub struct Activity<'c> {
     pub initiated: usize,
     /// How many of a hundred Satisfaction Orders are priced as a block's, beside those that are by chance.
     pub(super) as_block: usize,
+    /// How many of a hundred quotes come in a batch, and how many others at most come with one.
+    pub(super) batched: usize,
+    pub(super) others: usize,
+    pub(super) last_quotes: Option<Last>,
     /// Bid and offer by series and exchange.
     shown: [[[u32; 2]; 9]; 32],
     statuses: [u32; 9],
@@ -133,6 +138,9 @@ impl<'c> Activity<'c> {
             principal: header[2 + 2 * header[0] as usize],
             initiated: 25,
             as_block: 0,
+            batched: 0,
+            others: 31,
+            last_quotes: None,
             shown: [[[0; 2]; 9]; 32],
             statuses: [0; 9],
             trades: Vec::new(),
@@ -158,6 +166,8 @@ impl<'c> Activity<'c> {
         let milliseconds = self.close_in_turn(milliseconds);
         if self.until_fault == Some(0) {
             super::faults::add_faulty(self, kind, milliseconds, fields);
+        } else if kind == kind::QUOTE {
+            self.add_quote(milliseconds, fields);
         } else {
             self.add_as_is(kind, milliseconds, fields);
         }
@@ -272,11 +282,17 @@ impl<'c> Activity<'c> {
             fields.extend(if price == 0 { [0, 0, 0] } else { [price, size, held] });
         }
         self.add(1, ms, &fields);
-        self.shown[series as usize][exchange as usize] = prices;
+        self.note_shown(exchange, series, prices);
     }
 
     pub fn quote_around(&mut self, exchange: u32) {
         let series = self.a_series();
+        let prices = self.prices_around();
+        self.quote(exchange, series, prices);
+    }
+
+    /// A bid and an offer some cents around the level; at times one of them is absent, or both.
+    pub(super) fn prices_around(&mut self) -> [u32; 2] {
         let mut bid = self.price_around(3);
         let mut offer = bid + self.chance.between(1, 4);
         if offer > 1_000_000 || self.chance.one_in(10) {
@@ -285,7 +301,11 @@ impl<'c> Activity<'c> {
         if self.chance.one_in(10) {
             bid = 0;
         }
-        self.quote(exchange, series, [bid, offer]);
+        [bid, offer]
+    }
+
+    pub(super) fn note_shown(&mut self, exchange: u32, series: u32, prices: [u32; 2]) {
+        self.shown[series as usize][exchange as usize] = prices;
     }
 
     /// A home quote one cent below, at or above what an away exchange shows on the other side.
@@ -709,6 +729,7 @@ impl<'c> Activity<'c> {
             (4, |day| day.send_again()),
             (1, |day| day.all_send_again()),
             (1, |day| day.block_or_none()),
+            (3, |day| day.some_requote()),
         ]);
         happens(self);
     }
@@ -728,10 +749,12 @@ impl<'c> Activity<'c> {
 
     /// Quotes, then what it takes until the journal has exactly this many bytes: records of four, ten and eleven.
     pub fn fill_up(&mut self, length: usize) {
+        self.others = 0;
         while self.bytes.len() + 48 <= length {
             let exchange = self.chance.between(1, self.exchanges);
             self.quote_around(exchange);
         }
+        self.batched = 0;
         while self.bytes.len() < length {
             let away = self.away();
             match (length - self.bytes.len()) % 4 {

@@ -2,13 +2,14 @@
 //! otherwise.
 
 use super::sheets::desk_after;
+use crate::alone::Plain;
 use crate::claims::{Desk, Trade, reason};
 use crate::event::{Cancellation, HomeTrade, NoBlock, Satisfaction};
 use crate::header::Header;
 use crate::journal::{Moment, Watcher, open, walk};
 use crate::market::Market;
 use crate::number::Reader;
-use crate::record::{Record, kind};
+use crate::record::kind;
 use crate::sheet::{own_fills, sum_of_claims};
 use crate::time::Time;
 
@@ -72,7 +73,7 @@ struct Orders {
 }
 
 impl Watcher for Orders {
-    fn record(&mut self, record: &Record) {
+    fn record(&mut self, record: Plain<&[u32]>) {
         self.time += record.milliseconds;
     }
 
@@ -110,11 +111,11 @@ struct WithoutCancellations {
 }
 
 impl Watcher for WithoutCancellations {
-    fn record(&mut self, record: &Record) {
+    fn record(&mut self, record: Plain<&[u32]>) {
         self.waited += record.milliseconds;
         if record.kind != kind::CANCELLATION {
-            let mut written = [0; Record::MOST_BYTES];
-            let end = Record { milliseconds: self.waited, ..*record }.put(&mut written);
+            let mut written = [0; Plain::MOST_BYTES];
+            let end = Plain { milliseconds: self.waited, ..record }.put(&mut written);
             self.bytes.extend_from_slice(&written[..end]);
             self.waited = 0;
         }

@@ -1,16 +1,18 @@
 //! What the questions of a run have reached, by the right answers.
 
+use super::batched;
 use super::cancelled::{self, Cancelled};
 use super::followed;
 use super::sent_again::{self, SentAgain};
 use super::sheets::{accepted_header, desk_after};
+use crate::alone::Plain;
 use crate::ask::{Answer, Question, op, word_at};
 use crate::claims::{Desk, Line, Trade, reason};
 use crate::event::{HomeTrade, Order, Satisfaction};
 use crate::header::Header;
 use crate::journal::{Journal, Moment, Watcher, open, walk};
 use crate::market::Market;
-use crate::record::{Record, kind};
+use crate::record::kind;
 use crate::sheet;
 use crate::time::Time;
 use std::cmp::Ordering;
@@ -26,6 +28,8 @@ const WANTED: &str = "
     journal with 128 trades|journal with 256 sent orders|journal with 512 Satisfaction Orders
     journal of 32,768 bytes|journal with 8,000 records or more
     sheet accepted, our own|sheet accepted, another
+    record not written alone, 7 fields|record not written alone, 227 fields
+    list of more than 4,096 lines
     closing record accepted|closing record refused, a second|closing record refused, past the day
     closing record in the millisecond of a trade before it
     closing record in the millisecond of a trade after it
@@ -61,6 +65,7 @@ fn wanted() -> impl Iterator<Item = String> {
         .chain(cancelled::wanted())
         .chain(sent_again::wanted())
         .chain(followed::wanted())
+        .chain(batched::wanted())
         .filter(|what| !what.is_empty())
 }
 
@@ -77,7 +82,7 @@ struct Closing {
 }
 
 impl Watcher for Closing {
-    fn record(&mut self, _record: &Record) {
+    fn record(&mut self, _record: Plain<&[u32]>) {
         self.records += 1;
     }
 
@@ -152,6 +157,8 @@ impl Coverage {
                 self.note_list(&answer.bytes);
                 self.count_all(followed::reached(&question.a));
             }
+            (op::WRITE_RECORD, 98) => self.note_fields(question),
+            (op::READ_RECORD, 98) => {}
             (op::WRITE_RECORD | op::READ_RECORD, _) => self.note_record_alone(question, answer),
             _ => {}
         }
@@ -163,18 +170,26 @@ impl Coverage {
     fn note_room(&mut self, question: &Question, answer: &Answer) {
         let written = answer.bytes.len() as u32;
         let longer = Question { cap: question.cap + 1, ..question.clone() };
-        if answer.no == 0 && written > 0 && question.cap == written {
+        let enough = answer.no == 0 && written > 0 && question.cap == written;
+        let too_short = answer.no == 9 && longer.answer().no == 0;
+        if enough {
             self.count("output with just enough room");
         } else if answer.no == 0 && question.cap == written + 1 {
             self.count("output with one byte to spare");
-        } else if answer.no == 9 && longer.answer().no == 0 {
+        } else if too_short {
             self.count("output one byte too short");
+        }
+        if question.op == op::WRITE_RECORD && (enough || too_short) {
+            self.count_all(batched::reached_by_room(&words_after_header(question), enough));
         }
     }
 
-    /// A journal refused at its closing record, at a cancellation or at a Satisfaction Order.
+    /// A journal refused at its closing record, at a cancellation, at a Satisfaction Order or at a batch.
     fn note_refused(&mut self, question: &Question, answer: &Answer) {
         let place = answer.place as usize;
+        if matches!(answer.no, 1 | 2 | 5 | 6) {
+            self.count_all(batched::reached_by_refusal(&question.a, answer.no, place));
+        }
         match (question.a.get(place).map(|&byte| byte as u32), answer.no) {
             (Some(kind::CLOSING_WINDOW), 5) => self.count("closing record refused, past the day"),
             (Some(kind::CLOSING_WINDOW), 7) => self.count("closing record refused, a second"),
@@ -191,14 +206,27 @@ impl Coverage {
         }
     }
 
-    /// A closing record or a cancellation of either kind alone, read or written.
-    fn note_record_alone(&mut self, question: &Question, answer: &Answer) {
-        if answer.no == 98 {
-            return;
+    /// A record to be written with a field too few, or with one too many, for any record.
+    fn note_fields(&mut self, question: &Question) {
+        for fields in [Plain::FEWEST_FIELDS - 1, Plain::MOST_FIELDS + 1] {
+            if question.a.len() == 4 * (Header::NUMBERS + 3 + fields) {
+                self.count(format!("record not written alone, {fields} fields"));
+            }
         }
-        let words = (4 * Header::NUMBERS..question.a.len()).step_by(4).map(|at| word_at(&question.a, at));
-        let words: Vec<u32> = words.collect();
+    }
+
+    /// A closing record, a cancellation of either kind or a batch alone, read or written.
+    fn note_record_alone(&mut self, question: &Question, answer: &Answer) {
+        let words = words_after_header(question);
         let is_read = question.op == op::READ_RECORD;
+        let used = match (answer.no, is_read) {
+            (0, true) => word_at(&answer.bytes, 0) as usize,
+            _ => answer.bytes.len(),
+        };
+        let header = Header::of_numbers(&std::array::from_fn(|at| word_at(&question.a, 4 * at)));
+        let read = is_read.then_some(&question.b[..]);
+        let place = answer.place as usize;
+        self.count_all(batched::reached_alone(&header, &words, read, answer.no, place, used));
         let numbers = if is_read { cancelled::numbers(&question.b) } else { words[1..].to_vec() };
         let (kind, own) = match numbers.first() {
             Some(&kind::CLOSING_WINDOW) => ("closing record", 2),
@@ -208,7 +236,7 @@ impl Coverage {
         };
         let past_the_day = || words[0] as u64 + numbers[1] as u64 > Time::LAST as u64;
         let beyond = || match is_read {
-            true => question.b.len() > answer.bytes[0] as usize,
+            true => question.b.len() > used,
             false => numbers[own..].iter().any(|&field| field != 0),
         };
         let how = match answer.no {
@@ -255,6 +283,7 @@ impl Coverage {
         }
         self.count_all(Cancelled::of(header, journal).iter().flat_map(Cancelled::reached));
         self.count_all(SentAgain::of(header, journal).iter().flat_map(SentAgain::reached));
+        self.count_all(batched::reached(header, journal));
         self.note_trades(&desk);
         for trade in &desk.trades {
             self.note_limit(&desk, trade, &closing);
@@ -317,6 +346,9 @@ impl Coverage {
     }
 
     fn note_list(&mut self, text: &[u8]) {
+        if text.iter().filter(|&&byte| byte == b'\n').count() > 4_096 {
+            self.count("list of more than 4,096 lines");
+        }
         for line in String::from_utf8_lossy(text).lines().skip(1) {
             let words: Vec<&str> = line.split(' ').collect();
             let [_, what, a, b, c] = words[..] else {
@@ -346,6 +378,11 @@ impl Coverage {
         }
         wanted().filter(|what| !self.0.contains_key(what)).collect()
     }
+}
+
+/// The numbers of a question about one record that follow the header's.
+fn words_after_header(question: &Question) -> Vec<u32> {
+    (4 * Header::NUMBERS..question.a.len()).step_by(4).map(|at| word_at(&question.a, at)).collect()
 }
 
 fn quote_verdict(verdict: &str, side: &str) -> &'static str {

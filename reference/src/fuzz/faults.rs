@@ -2,12 +2,12 @@
 
 use super::activity::{Activity, Asked, put_number};
 use super::chance::Chance;
-use super::values;
+use super::{batching, values};
 use crate::record::kind;
 
 /// Adds the record with one thing wrong, or what is wrong only beside the records before it.
 pub fn add_faulty(day: &mut Activity, kind: u32, milliseconds: u32, fields: &[u32]) {
-    match day.chance.below(14) {
+    match day.chance.below(16) {
         0 => {
             let unknown = values::unknown_kind(day.chance);
             day.add_as_is(unknown, milliseconds, fields);
@@ -22,6 +22,7 @@ pub fn add_faulty(day: &mut Activity, kind: u32, milliseconds: u32, fields: &[u3
         5 | 6 => add_faulty_closing(day, milliseconds),
         7 | 8 => add_faulty_cancellation(day),
         9 | 10 => add_faulty_no_block(day),
+        11 | 12 => batching::add_faulty_batch(day),
         _ => {
             let mut fields = fields.to_vec();
             let field = day.chance.below(fields.len());
@@ -244,18 +245,7 @@ fn add_with_a_long_number(day: &mut Activity, kind: u32, milliseconds: u32, fiel
 /// "Both sides and bid not below offer; a price 0 with a size or customers; a price with size 0; customers above size."
 fn add_unsound_quote(day: &mut Activity, milliseconds: u32) {
     let (exchange, series) = (day.away(), day.series[0]);
-    let sides = day.chance.pick(&[
-        [100, 5, 5, 100, 5, 5],
-        [101, 5, 5, 100, 5, 5],
-        [0, 1, 0, 100, 5, 5],
-        [0, 0, 1, 100, 5, 5],
-        [100, 5, 5, 0, 1, 1],
-        [100, 0, 0, 101, 5, 5],
-        [100, 5, 5, 101, 0, 0],
-        [100, 5, 6, 101, 5, 5],
-        [100, 5, 5, 101, 5, 6],
-        [0, 0, 0, 0, 0, 1],
-    ]);
+    let sides = day.chance.pick(&values::UNSOUND);
     let fields: Vec<u32> = [exchange, series].into_iter().chain(sides).collect();
     day.add_as_is(1, milliseconds, &fields);
 }

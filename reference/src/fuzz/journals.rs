@@ -2,9 +2,10 @@
 
 use super::activity::{Activity, put_number};
 use super::chance::Chance;
-use super::{faults, values};
+use super::{batching, faults, values};
 use crate::header::Header;
 use crate::journal::Journal;
+use crate::record::kind;
 
 #[derive(Clone, Copy)]
 enum Day {
@@ -12,6 +13,7 @@ enum Day {
     WithFault,
     WithFaultyCancellation,
     WithFaultyNoBlock,
+    WithFaultyBatch,
     Damaged,
     OnlyHeader,
     Noise,
@@ -20,11 +22,12 @@ enum Day {
     ManySatisfactions,
     ManyRecords,
     Full,
+    FullOfBatches,
     TooLong,
 }
 
 /// The closing record comes at any point of the day, or never; on some days most trades come from other exchanges, on
-/// some many ask as if they were blocks.
+/// some many ask as if they were blocks, on some many quotes or all come in batches.
 fn open<'c>(chance: &'c mut Chance, header: &[u32; Header::NUMBERS]) -> Activity<'c> {
     let mut day = Activity::open(chance, header);
     if day.chance.percent(60) {
@@ -34,6 +37,8 @@ fn open<'c>(chance: &'c mut Chance, header: &[u32; Header::NUMBERS]) -> Activity
     }
     day.initiated = day.chance.pick(&[25, 80]);
     day.as_block = day.chance.pick(&[0, 0, 50]);
+    day.batched = day.chance.pick(&[0, 0, 20, 60, 100]);
+    day.others = day.chance.pick(&[0, 2, 31]);
     day
 }
 
@@ -68,6 +73,9 @@ pub fn journal_with_claims(chance: &mut Chance) -> Vec<u8> {
 
 /// Half of them days with orders that follow an initial execution, for questions about the list.
 pub fn journal_with_orders(chance: &mut Chance) -> Vec<u8> {
+    if chance.one_in(100) {
+        return most_lines(chance);
+    }
     if chance.one_in(2) {
         return journal(chance);
     }
@@ -88,18 +96,20 @@ pub fn journal_with_orders(chance: &mut Chance) -> Vec<u8> {
 
 pub fn journal(chance: &mut Chance) -> Vec<u8> {
     let day = chance.weighted(&[
-        (480, Day::Usual),
+        (420, Day::Usual),
         (200, Day::WithFault),
-        (110, Day::WithFaultyCancellation),
+        (150, Day::WithFaultyCancellation),
         (130, Day::WithFaultyNoBlock),
+        (220, Day::WithFaultyBatch),
         (110, Day::Damaged),
         (60, Day::OnlyHeader),
         (20, Day::Noise),
-        (6, Day::ManyTrades),
-        (6, Day::ManySent),
-        (20, Day::ManySatisfactions),
+        (8, Day::ManyTrades),
+        (8, Day::ManySent),
+        (24, Day::ManySatisfactions),
         (4, Day::ManyRecords),
         (12, Day::Full),
+        (20, Day::FullOfBatches),
         (6, Day::TooLong),
     ]);
     match day {
@@ -110,6 +120,7 @@ pub fn journal(chance: &mut Chance) -> Vec<u8> {
         }
         Day::WithFaultyCancellation => with_fault_at_the_end(chance, faults::add_faulty_cancellation),
         Day::WithFaultyNoBlock => with_fault_at_the_end(chance, faults::add_faulty_no_block),
+        Day::WithFaultyBatch => with_fault_at_the_end(chance, batching::add_faulty_batch),
         Day::Damaged => damaged(chance),
         Day::OnlyHeader => only_header(chance),
         Day::Noise => (0..chance.below(60)).map(|_| chance.byte()).collect(),
@@ -118,6 +129,7 @@ pub fn journal(chance: &mut Chance) -> Vec<u8> {
         Day::ManySatisfactions => many_satisfactions(chance),
         Day::ManyRecords => many_records(chance),
         Day::Full => full(chance),
+        Day::FullOfBatches => full_of_batches(chance),
         Day::TooLong => too_long(chance),
     }
 }
@@ -147,7 +159,7 @@ fn usual(chance: &mut Chance, until_fault: Option<usize>) -> Vec<u8> {
     day.bytes
 }
 
-/// Some records, then a cancellation with something wrong.
+/// Some records, then one with something wrong.
 fn with_fault_at_the_end(chance: &mut Chance, add_faulty: fn(&mut Activity)) -> Vec<u8> {
     let header = values::header(chance);
     let steps = chance.below(15);
@@ -181,7 +193,16 @@ fn only_header(chance: &mut Chance) -> Vec<u8> {
         let records: &[&[u8]] = &[&[2, 0, 1, 0], &[9, 0], &[9, 0, 2, 0, 1, 0], &[9, 0, 9, 0], &[9, 0, 9], &[9]];
         let cancellations: &[&[u8]] = &[&[8, 0, 0, 1], &[8, 1, 0, 2], &[8, 0, 9, 1], &[8, 0, 0, 0], &[8, 0, 0], &[8]];
         let no_block: &[&[u8]] = &[&[11, 0, 0], &[11, 1, 0], &[11, 0, 9], &[11, 0, 0x80, 0], &[11, 0], &[11]];
-        let records = chance.pick(&[records, cancellations, no_block]);
+        let batches: &[&[u8]] = &[
+            &[10, 0, 1, 1, 0, 100, 1, 1, 101, 1, 1],
+            &[10, 1, 2, 1, 0, 100, 1, 1, 0, 0, 0],
+            &[10, 0, 1, 0],
+            &[10, 0, 0, 33, 0x80, 0],
+            &[10, 0, 1],
+            &[10, 0],
+            &[10],
+        ];
+        let records = chance.pick(&[records, cancellations, no_block, batches]);
         bytes.extend(chance.pick(records));
     }
     bytes
@@ -268,6 +289,37 @@ fn full(chance: &mut Chance) -> Vec<u8> {
         day.something();
     }
     day.fill_up(length);
+    day.bytes
+}
+
+/// The same with batches up to the last byte, or with one that promises more quotes than there is room for.
+fn full_of_batches(chance: &mut Chance) -> Vec<u8> {
+    let header = values::header(chance);
+    let length = chance.pick(&[32_767, 32_768, 32_768, 32_768, 32_769]);
+    let busy = chance.below(30);
+    let mut day = open(chance, &header);
+    for _ in 0..busy {
+        day.something();
+    }
+    let left = day.chance.weighted(&[(3, 0), (1, 4), (1, 11), (1, 100), (1, 227), (1, 228)]);
+    day.fill_up_with_batches(length - left);
+    if left > 0 {
+        // Of 32 quotes without a price, 228 bytes.
+        day.add_as_is(kind::BATCH, 0, &[1, 32]);
+        day.bytes.resize(length, 0);
+    }
+    day.bytes
+}
+
+/// After some records home's batches of 32 quotes without a price: no journal prints more lines.
+fn most_lines(chance: &mut Chance) -> Vec<u8> {
+    let header = values::header(chance);
+    let busy = chance.below(10);
+    let mut day = open(chance, &header);
+    for _ in 0..busy {
+        day.something();
+    }
+    day.fill_with_homes_batches(Journal::MOST_BYTES);
     day.bytes
 }
 

@@ -1,6 +1,8 @@
 //! Puts questions by seed to a program and holds its answers against ours.
 
 pub mod activity;
+mod batched;
+mod batching;
 mod cancelled;
 mod cancelling;
 pub mod chance;
@@ -24,9 +26,9 @@ use std::io::{self, Read, Write};
 use std::process::{Command, Stdio};
 use std::{fs, thread};
 
-/// A batch ends at whichever comes first, which bounds the memory.
-const BATCH_QUESTIONS: u64 = 500;
-const BATCH_BYTES: usize = 4 << 20;
+/// A round ends at whichever comes first, which bounds the memory.
+const ROUND_QUESTIONS: u64 = 500;
+const ROUND_BYTES: usize = 4 << 20;
 
 /// Questions and differences.
 #[derive(Default, Clone, Copy)]
@@ -43,43 +45,50 @@ struct Run {
 }
 
 /// Questions of one run of the program, with the right answers.
-struct Batch {
+struct Round {
     first: u64,
     questions: Vec<Question>,
     answers: Vec<Answer>,
     input: Vec<u8>,
 }
 
-/// Asks `count` questions; true where every answer was right. The run stops after the first batch with a difference.
+/// Days as they are asked about: any, and those made for lists and for sheets.
+#[cfg(test)]
+pub fn days(seed: u64, number: u64) -> [Vec<u8>; 3] {
+    let made = [journals::journal, journals::journal_with_orders, journals::journal_with_claims];
+    made.map(|make| make(&mut Chance::new(seed, number)))
+}
+
+/// Asks `count` questions; true where every answer was right. The run stops after the first round with a difference.
 pub fn run(program: &[&str], seed: u64, count: u64) -> io::Result<bool> {
     let mut run = Run::default();
     let mut asked = 0;
     let mut good = true;
     while asked < count && good {
-        let batch = Batch::next(seed, asked, count);
-        asked += batch.questions.len() as u64;
-        let room = 16 + batch.answers.iter().map(|answer| 13 + answer.bytes.len()).sum::<usize>();
-        let said = ask(program, &batch.input, room)?;
-        good = run.compare(&batch, &said, seed)?;
+        let round = Round::next(seed, asked, count);
+        asked += round.questions.len() as u64;
+        let room = 16 + round.answers.iter().map(|answer| 13 + answer.bytes.len()).sum::<usize>();
+        let said = ask(program, &round.input, room)?;
+        good = run.compare(&round, &said, seed)?;
     }
     run.print(seed);
     Ok(good)
 }
 
-impl Batch {
-    fn next(seed: u64, first: u64, count: u64) -> Batch {
-        let mut batch = Batch { first, questions: Vec::new(), answers: Vec::new(), input: Vec::new() };
-        for number in first..count.min(first + BATCH_QUESTIONS) {
+impl Round {
+    fn next(seed: u64, first: u64, count: u64) -> Round {
+        let mut round = Round { first, questions: Vec::new(), answers: Vec::new(), input: Vec::new() };
+        for number in first..count.min(first + ROUND_QUESTIONS) {
             let question = questions::question(seed, number);
-            batch.answers.push(question.answer());
-            question.put(&mut batch.input);
-            batch.questions.push(question);
-            if batch.input.len() > BATCH_BYTES {
+            round.answers.push(question.answer());
+            question.put(&mut round.input);
+            round.questions.push(question);
+            if round.input.len() > ROUND_BYTES {
                 break;
             }
         }
-        batch.put_unreadable_end(&mut Chance::new(!seed, first));
-        batch
+        round.put_unreadable_end(&mut Chance::new(!seed, first));
+        round
     }
 
     /// A question that can't be read whole "stops the run", and so does a size that is too large.
@@ -119,10 +128,10 @@ fn ask(program: &[&str], input: &[u8], room: usize) -> io::Result<Vec<u8>> {
 }
 
 impl Run {
-    fn compare(&mut self, batch: &Batch, said: &[u8], seed: u64) -> io::Result<bool> {
+    fn compare(&mut self, round: &Round, said: &[u8], seed: u64) -> io::Result<bool> {
         let mut rest = said;
         let mut first_difference = None;
-        for (at, (question, answer)) in batch.questions.iter().zip(&batch.answers).enumerate() {
+        for (at, (question, answer)) in round.questions.iter().zip(&round.answers).enumerate() {
             let (given, after) = split_answer(rest);
             let mut right = Vec::new();
             answer.put(&mut right);
@@ -134,9 +143,9 @@ impl Run {
             rest = after;
         }
         if let Some((at, given, right)) = &first_difference {
-            report(batch, *at, given, right, seed)?;
+            report(round, *at, given, right, seed)?;
         } else if !rest.is_empty() {
-            println!("{} bytes after the last answer, batch of question {}", rest.len(), batch.first);
+            println!("{} bytes after the last answer, round of question {}", rest.len(), round.first);
         }
         Ok(first_difference.is_none() && rest.is_empty())
     }
@@ -175,10 +184,10 @@ fn split_answer(said: &[u8]) -> (&[u8], &[u8]) {
 }
 
 /// Leaves the question, ready to be asked again, and both answers.
-fn report(batch: &Batch, at: usize, given: &[u8], right: &[u8], seed: u64) -> io::Result<()> {
-    let number = batch.first + at as u64;
+fn report(round: &Round, at: usize, given: &[u8], right: &[u8], seed: u64) -> io::Result<()> {
+    let number = round.first + at as u64;
     let name = format!("difference-{seed}-{number}");
-    let question = &batch.questions[at];
+    let question = &round.questions[at];
     let mut asked = Vec::new();
     question.put(&mut asked);
     fs::write(format!("{name}.question"), &asked)?;

@@ -159,12 +159,15 @@ impl Activity<'_> {
                 self.quote(exchange, series, [0, 0]);
             }
         }
-        let [at_trade, later] = [0, 1].map(|_| self.chance.pick(&[0, 299, 300, 301, 301, 302]));
-        self.quote(shower, series, [at_trade, 0]);
+        let bid_side = self.chance.one_in(2);
+        let outside = if bid_side { [0, 299, 300, 301, 301, 302] } else { [0, 301, 300, 299, 299, 298] };
+        let [at_trade, later] =
+            [0, 1].map(|_| self.chance.pick(&outside)).map(|price| if bid_side { [price, 0] } else { [0, price] });
+        self.quote(shower, series, at_trade);
         let form = self.chance.between(1, 2);
         self.trade_of(form, 0, series, 300, 500, 0);
         self.satisfaction_at(0, 300, 500, self.trades() - 1, from);
-        self.quote(shower, series, [later, 0]);
+        self.quote(shower, series, later);
         self.asked.len() - 1
     }
 

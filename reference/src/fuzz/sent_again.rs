@@ -3,12 +3,13 @@
 
 use super::cancelled::{numbers, so};
 use super::sheets::desk_after;
+use crate::alone::Plain;
 use crate::claims::{Desk, Trade, reason};
-use crate::event::{Cancellation, HomeTrade, NoBlock, Order, Quote, Response, Satisfaction};
+use crate::event::{Cancellation, HomeTrade, NoBlock, Order, Quote, Response, Satisfaction, Side};
 use crate::header::Header;
 use crate::journal::{Moment, Watcher, open, walk};
 use crate::market::Market;
-use crate::record::{Record, kind};
+use crate::record::kind;
 use crate::sheet::{own_fills, sum_of_claims};
 use crate::time::Time;
 
@@ -62,6 +63,8 @@ const WANTED: &str = "
     sheet refused, others filled as if one late were in time|sheet refused, due total without one sent again
     sheet refused, shares with one sent again
     no-block record refused, unknown order|no-block record refused, no order so far
+    no block, a block but for a batch|no-block record refused, a block by a batch
+    no-block record refused, a block by the offer|no-block record refused, a block by the offer of a batch
     no-block record refused, a block|no-block record refused, a block but none by quotes since
     no-block record refused, price not the trade's
     no-block record refused, 180,001 ms after the claim|no-block record refused, later
@@ -112,6 +115,9 @@ struct Asked {
 struct Traded {
     trade: HomeTrade,
     block: bool,
+    /// If no quote of a batch had come.
+    block_singly: bool,
+    by_offer: bool,
     /// It stands before the closing record.
     before_closing: bool,
 }
@@ -119,6 +125,9 @@ struct Traded {
 #[derive(Default)]
 struct Orders {
     market: Market,
+    /// Without the quotes of batches.
+    singly: Market,
+    in_batch: bool,
     trades: Vec<Traded>,
     asked: Vec<Asked>,
     time: u32,
@@ -126,17 +135,23 @@ struct Orders {
 }
 
 impl Watcher for Orders {
-    fn record(&mut self, record: &Record) {
+    fn record(&mut self, record: Plain<&[u32]>) {
         self.time += record.milliseconds;
+        self.in_batch = record.kind == kind::BATCH;
     }
 
     fn quote(&mut self, _at: Moment, _market: &Market, quote: &Quote) {
         self.market.quote(quote);
+        if !self.in_batch {
+            self.singly.quote(quote);
+        }
     }
 
     fn home_trade(&mut self, _at: Moment, market: &Market, trade: &HomeTrade) {
-        let block = market.is_block(trade);
-        self.trades.push(Traded { trade: *trade, block, before_closing: self.closing.is_none() });
+        let (block, block_singly) = (market.is_block(trade), self.singly.is_block(trade));
+        let by_offer = block && Side::Offer.is_better(market.best(trade.series, Side::Offer), trade.price);
+        let before_closing = self.closing.is_none();
+        self.trades.push(Traded { trade: *trade, block, block_singly, by_offer, before_closing });
     }
 
     fn satisfaction_order(&mut self, at: Moment, order: &Satisfaction) {
@@ -292,7 +307,7 @@ impl<'h> SentAgain<'h> {
     }
 
     fn reached_by_first(&self, order: usize, no_block: Moment, reached: &mut Vec<String>) {
-        let Asked { received, block_by_now, .. } = self.orders.asked[order];
+        let Asked { trade, received, block_by_now, .. } = self.orders.asked[order];
         reached.push(reason_of_first(self.reason(order)));
         if let Some((_, wait)) = WAITS.iter().find(|(wait, _)| *wait == no_block.time - received.time) {
             reached.push(format!("no block {wait}{}", self.place_of(order, received.time)));
@@ -300,6 +315,7 @@ impl<'h> SentAgain<'h> {
         let none_again = !self.orders.asked.iter().any(|asked| asked.first == Some(order));
         reached.extend(so(&[
             (block_by_now, "no block, a block by quotes since"),
+            (self.orders.trades[trade].block_singly, "no block, a block but for a batch"),
             (order + 1 == Satisfaction::MOST, "no block, the last of 512 orders"),
             (none_again, "no block, none sent again"),
         ]));
@@ -423,24 +439,31 @@ impl<'h> SentAgain<'h> {
 }
 
 /// Why a journal is refused at a cancellation as no block, where one thing alone is wrong with it.
-pub fn reached_by_no_block(journal: &[u8], no: u32, place: usize) -> Option<String> {
+pub fn reached_by_no_block(journal: &[u8], no: u32, place: usize) -> Vec<String> {
     let [kind::NO_BLOCK, milliseconds, order, ..] = numbers(&journal[place..])[..] else {
-        return None;
+        return vec![];
     };
-    let (header, _) = open(journal).ok()?;
+    let Ok((header, _)) = open(journal) else {
+        return vec![];
+    };
     let orders = Orders::of(&journal[..place]);
     let why = match (no, orders.asked.get(order as usize)) {
-        (5, _) => "past the day",
-        (_, None) if orders.asked.is_empty() => "no order so far",
-        (_, None) => "unknown order",
-        (_, Some(_)) => {
-            let [why] = wrong_with(&header, &orders, order as usize, orders.time + milliseconds)[..] else {
-                return None;
-            };
+        (5, _) => vec!["past the day"],
+        (_, None) if orders.asked.is_empty() => vec!["no order so far"],
+        (_, None) => vec!["unknown order"],
+        (_, Some(asked)) => {
+            let mut why = wrong_with(&header, &orders, order as usize, orders.time + milliseconds);
+            if why.len() != 1 {
+                return vec![];
+            }
+            let Traded { block, block_singly, by_offer, .. } = orders.trades[asked.trade];
+            why.extend((block && !block_singly).then_some("a block by a batch"));
+            why.extend(by_offer.then_some("a block by the offer"));
+            why.extend((by_offer && !block_singly).then_some("a block by the offer of a batch"));
             why
         }
     };
-    Some(format!("no-block record refused, {why}"))
+    why.into_iter().map(|why| format!("no-block record refused, {why}")).collect()
 }
 
 /// All that is wrong with cancelling the order as no block then.

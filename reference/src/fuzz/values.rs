@@ -1,8 +1,25 @@
 //! Numbers worth asking about: usual ones, the ends of each range, and those just outside.
 
+use super::batching::{self, Drawn};
 use super::chance::Chance;
+use crate::alone::Plain;
+use crate::batch::Batch;
 use crate::header::Header;
-use crate::record::Record;
+use crate::record::{Record, kind};
+
+/// The sides of quotes that are refused 6.
+pub const UNSOUND: [[u32; 6]; 10] = [
+    [100, 5, 5, 100, 5, 5],
+    [101, 5, 5, 100, 5, 5],
+    [0, 1, 0, 100, 5, 5],
+    [0, 0, 1, 100, 5, 5],
+    [100, 5, 5, 0, 1, 1],
+    [100, 0, 0, 101, 5, 5],
+    [100, 5, 5, 101, 0, 0],
+    [100, 5, 6, 101, 5, 5],
+    [100, 5, 5, 101, 5, 6],
+    [0, 0, 0, 0, 0, 1],
+];
 
 /// Larger than any number that can be stored, or the largest.
 const HUGE: [u32; 6] = [268_435_455, 268_435_456, 268_435_457, 1 << 31, u32::MAX - 1, u32::MAX];
@@ -143,14 +160,14 @@ fn usual_fields(chance: &mut Chance, kind: u32, header: &[u32]) -> [u32; Record:
 }
 
 pub fn unknown_kind(chance: &mut Chance) -> u32 {
-    chance.pick(&[0, 10, 10, 12, 13, 127, 128, 16_384, 268_435_455])
+    chance.pick(&[0, 12, 12, 13, 26, 127, 128, 16_384, 268_435_455])
 }
 
 fn naming(chance: &mut Chance) -> u32 {
     chance.pick(&[0, 1, 127, 128, 255, 256, 512, 16_384, 2_097_152, 268_435_455])
 }
 
-fn quote_fields(chance: &mut Chance, exchanges: u32) -> [u32; Record::MOST_FIELDS] {
+pub fn quote_fields(chance: &mut Chance, exchanges: u32) -> [u32; Record::MOST_FIELDS] {
     let bid = chance.pick(&[0, 1, 100, 127, 999_998, 999_999]);
     let offer = chance.pick(&[0, bid + 1, bid + 1, 1_000_000]);
     let sizes = [bid, offer].map(|price| if price == 0 { 0 } else { contracts(chance) });
@@ -158,19 +175,18 @@ fn quote_fields(chance: &mut Chance, exchanges: u32) -> [u32; Record::MOST_FIELD
     [chance.between(1, exchanges), series(chance), bid, sizes[0], held[0], offer, sizes[1], held[1]]
 }
 
-/// A record, one number of which may lie at the end of its range, outside, or beyond what can be stored.
-pub fn record_or_near(chance: &mut Chance, header: &[u32; Header::NUMBERS]) -> Record {
+/// A record with its own fields, one number of which may lie at the end of its range, outside, or beyond what can be
+/// stored.
+pub fn record_or_near(chance: &mut Chance, header: &[u32; Header::NUMBERS]) -> Plain<Vec<u32>> {
     let exchanges = header[1].clamp(2, 8);
-    let kind = chance.pick(&[1, 2, 3, 4, 5, 6, 7, 8, 8, 8, 9, 9, 11, 11, 11]);
-    let fields = usual_fields(chance, kind, &[header[0].min(8), exchanges]);
+    let kind = chance.pick(&[1, 2, 3, 4, 5, 6, 7, 8, 8, 8, 9, 9, 10, 10, 10, 10, 10, 10, 11, 11, 11]);
     let milliseconds = chance.pick(&[0, 0, 1, 127, 128, 1_000, 20_001, 16_384, 2_097_152, 86_399_999]);
-    let mut record = Record { kind, milliseconds, fields };
+    let mut record = Plain { kind, milliseconds, fields: own_fields(chance, kind, &[header[0].min(8), exchanges]) };
     match chance.below(12) {
         0 => record.kind = if chance.one_in(4) { chance.pick(&HUGE) } else { unknown_kind(chance) },
         1 => record.milliseconds = chance.pick(&[86_399_999, 86_400_000, 268_435_455, 268_435_456, u32::MAX]),
-        2..=6 => {
-            // A kind without fields is given one that does not count.
-            let field = chance.below(record.own_fields().len().max(1));
+        2..=6 if !record.fields.is_empty() => {
+            let field = chance.below(record.fields.len());
             record.fields[field] = near_an_end(chance, kind, field, header[0], header[1]);
         }
         _ => {}
@@ -178,17 +194,34 @@ pub fn record_or_near(chance: &mut Chance, header: &[u32; Header::NUMBERS]) -> R
     record
 }
 
+/// As many as the kind has.
+fn own_fields(chance: &mut Chance, kind: u32, header: &[u32]) -> Vec<u32> {
+    if kind == kind::BATCH {
+        let count = batching::count_of_quotes(chance);
+        let exchange = chance.between(1, header[1]);
+        return Drawn::new(exchange, batching::some_quotes(chance, count)).fields();
+    }
+    let fields = usual_fields(chance, kind, header);
+    Record { kind, milliseconds: 0, fields }.plain().fields.to_vec()
+}
+
 /// What each field of each kind means: Exchange, Series, Price, Contracts, Three (0 to 2), Flag, Delay, One or two,
 /// Naming.
 const MEANT: [&[u8]; 12] =
-    [b"", b"ESPCCPCC", b"ET", b"SPCTFED", b"OESOPC", b"NC", b"OESOPC", b"NEPC", b"NE", b"", b"", b"N"];
+    [b"", b"ESPCCPCC", b"ET", b"SPCTFED", b"OESOPC", b"NC", b"OESOPC", b"NEPC", b"NE", b"", b"EQ", b"N"];
+
+/// The same of a quote in a batch; its count is Q.
+const MEANT_IN_BATCH: &[u8; 7] = b"SPCCPCC";
 
 /// A value at or just beyond an end of the range of this field, or one that can't be stored.
 pub fn near_an_end(chance: &mut Chance, kind: u32, field: usize, home: u32, exchanges: u32) -> u32 {
     if chance.one_in(6) {
         return chance.pick(&HUGE);
     }
-    let meant = MEANT.get(kind as usize).and_then(|fields| fields.get(field));
+    let meant = match (kind, field.checked_sub(Batch::OPENING)) {
+        (kind::BATCH, Some(at)) => MEANT_IN_BATCH.get(at % Batch::NUMBERS_A_QUOTE),
+        _ => MEANT.get(kind as usize).and_then(|fields| fields.get(field)),
+    };
     match meant {
         Some(b'E') => chance.pick(&[0, 1, home, home, exchanges, exchanges.saturating_add(1)]),
         Some(b'S') => chance.pick(&[0, 31, 32]),
@@ -198,6 +231,7 @@ pub fn near_an_end(chance: &mut Chance, kind: u32, field: usize, home: u32, exch
         Some(b'F') => chance.pick(&[0, 1, 2]),
         Some(b'D') => chance.pick(&[0, 600_000, 600_001]),
         Some(b'O') => chance.pick(&[0, 1, 2, 3]),
+        Some(b'Q') => chance.pick(&[0, 1, 32, 33, 127, 128]),
         Some(b'N') if chance.one_in(3) => chance.pick(&[268_435_455, 268_435_456]),
         _ => naming(chance),
     }

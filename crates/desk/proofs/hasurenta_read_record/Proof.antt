@@ -1,47 +1,38 @@
+-- `hasurenta_read_record` meets its contract: each need by the laws of this crate.
 use Rattle.desk.proofs.Records.{reader-laws}
 use borrow.Author.Needs.{needs}
 use Rattle.desk.proofs.hasurenta_read_record.Statement.{statement}
 use Rattle.desk.proofs.hasurenta_read_record.Tie as tie
-use Rattle.desk.proofs.hasurenta_read_record.Reads as reads
-use Rattle.desk.proofs.hasurenta_read_record.Lts as lts
-use Rattle.alone.proofs.read_record.Reads as read-record-reads
-use Rattle.given.proofs.head_of.Reads as head-of-reads
-use Rattle.desk.proofs.put_words.Reads as put-words-reads
-use Rattle.desk.proofs.refusal.Reads as refusal-reads
-use Rattle.desk.proofs.words_of.Reads as words-of-reads
 
 refusal-requires : tie.Need-refusal-requires
-refusal-requires c κs = search needs
+refusal-requires c κs = search (reader-laws, needs)
 
 returns : tie.Need-returns
 returns c = search (reader-laws, needs)
 
 head-of-requires : tie.Need-head-of-requires
-head-of-requires c κs = search needs
+head-of-requires c κs = search (reader-laws, needs)
 
 shared-slice-read-read-record : tie.Need-shared-slice-read-read-record
-shared-slice-read-read-record c = search needs
+shared-slice-read-read-record c = search (reader-laws, needs)
 
 read-record-requires : tie.Need-read-record-requires
-read-record-requires c κs = search needs
+read-record-requires c κs = search (reader-laws, needs)
 
 refusal-requires-2 : tie.Need-refusal-requires-2
-refusal-requires-2 c κs = search needs
+refusal-requires-2 c κs = search (reader-laws, needs)
 
 returns-2 : tie.Need-returns-2
 returns-2 c = search (reader-laws, needs)
 
-words-of-requires : tie.Need-words-of-requires
-words-of-requires c κs = search needs
+handed-out-requires : tie.Need-handed-out-requires
+handed-out-requires c κs = search (reader-laws, needs)
 
-slice-aggregate-put-words : tie.Need-slice-aggregate-put-words
-slice-aggregate-put-words c = search needs
-
-put-words-requires : tie.Need-put-words-requires
-put-words-requires c κs = search needs
+put-record-requires : tie.Need-put-record-requires
+put-record-requires c κs = search (reader-laws, needs)
 
 same-length : tie.Need-same-length
-same-length c = search needs
+same-length c = search (reader-laws, needs)
 
 returns-3 : tie.Need-returns-3
 returns-3 c = search (reader-laws, needs)
@@ -57,8 +48,7 @@ hasurenta-read-record-spec =
     read-record-requires
     refusal-requires-2
     returns-2
-    words-of-requires
-    slice-aggregate-put-words
-    put-words-requires
+    handed-out-requires
+    put-record-requires
     same-length
     returns-3)
