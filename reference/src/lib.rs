@@ -18,6 +18,7 @@ mod examples;
 pub mod fuzz;
 pub mod header;
 pub mod journal;
+pub mod lengths;
 pub mod make;
 pub mod market;
 pub mod number;

@@ -30,7 +30,7 @@ fn usage() -> io::Result<bool> {
     eprintln!("reference vectors DIR");
     eprintln!("reference fuzz PROGRAM [ARGS..] --seed N --count N");
     for (kind, full_of) in make::KINDS {
-        eprintln!("reference make {kind:8} ({full_of})");
+        eprintln!("reference make {kind:12} ({full_of})");
     }
     Ok(false)
 }

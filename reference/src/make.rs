@@ -4,17 +4,24 @@ use crate::fuzz::activity::Activity;
 use crate::fuzz::chance::Chance;
 use crate::header::Header;
 use crate::journal::Journal;
+use crate::lengths;
 use crate::record::kind;
 
 /// Every kind with what it is full of.
-pub const KINDS: [(&str, &str); 6] = [
+pub const KINDS: [(&str, &str); 9] = [
     ("quotes", "quotes of eight exchanges in every series"),
+    ("short", "such quotes, every number of a record in one byte or two"),
     ("claims", "128 trades, 256 sent orders, 512 Satisfaction Orders"),
+    ("short-claims", "the same, every number of a record in one byte or two"),
     ("worst", "one trade of 100,000 contracts shared among seven exchanges"),
     ("mixed", "all that happens on a market, and the closing record in the middle"),
+    ("lengths", "quotes, orders, trades and claims whose numbers are of every length that they may have"),
     ("batches", "32 series quoted again and again by batches, 2,048 quotes"),
     ("singles", "the same quotes, each by a record of its own"),
 ];
+
+/// The largest number of two bytes.
+const TWO_BYTES: u32 = 16_383;
 
 /// A journal of exactly as many bytes as one may have; batches, and the same quotes singly, take fewer.
 pub fn journal(kind: &str) -> Option<Vec<u8>> {
@@ -22,11 +29,15 @@ pub fn journal(kind: &str) -> Option<Vec<u8>> {
     let mut day = Activity::open(chance, &header());
     day.series = (0..32).collect();
     day.level = 250;
+    if kind.starts_with("short") {
+        day.largest = TWO_BYTES;
+    }
     match kind {
-        "quotes" => {}
-        "claims" => claims(&mut day),
+        "quotes" | "short" => {}
+        "claims" | "short-claims" => claims(&mut day),
         "worst" => worst(&mut day),
         "mixed" => mixed(&mut day),
+        "lengths" => lengths::fill(&mut day),
         "batches" => return Some(requotes(day, true)),
         "singles" => return Some(requotes(day, false)),
         _ => return None,

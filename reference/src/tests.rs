@@ -1,13 +1,14 @@
-//! Small cases of numbers, records, refusals and questions, and how long every made journal is.
+//! Small cases of numbers, records, refusals and questions, and how long every made journal is and its numbers are.
 
 use crate::alone::Plain;
 use crate::ask::{self, Question};
 use crate::header::{FirmSizes, Header};
-use crate::journal::Journal;
+use crate::journal::{Journal, Watcher};
 use crate::number::Reader;
 use crate::record::kind;
 use crate::refusal::{No, Refusal};
 use crate::{day, journal, make};
+use std::collections::BTreeMap;
 
 fn read(bytes: &[u8]) -> Option<(u32, usize)> {
     let mut reader = Reader::new(bytes);
@@ -144,6 +145,76 @@ fn made_journals_are_full_and_good() {
         assert_eq!(made.len() == Journal::MOST_BYTES, !["batches", "singles"].contains(&kind), "{kind}");
         assert_eq!(journal::accept(&made), Ok(()), "{kind}");
     }
+}
+
+/// How many numbers take one byte to four, at each place of the records of each kind: milliseconds are at 0, the fields
+/// from 1 on.
+#[derive(Default)]
+struct Lengths(BTreeMap<(u32, usize), [usize; 4]>);
+
+impl Watcher for Lengths {
+    fn record(&mut self, record: Plain<&[u32]>) {
+        for (place, &number) in [record.milliseconds].iter().chain(record.fields).enumerate() {
+            let groups_beyond_first = number.max(1).ilog2() / 7;
+            self.0.entry((record.kind, place)).or_default()[groups_beyond_first as usize] += 1;
+        }
+    }
+}
+
+fn lengths_of(kind: &str) -> Lengths {
+    let made = make::journal(kind).expect("a kind that is named");
+    let (header, reader) = journal::open(&made).expect("made journals have a header");
+    let mut lengths = Lengths::default();
+    journal::walk(&header, reader, &mut lengths).expect("made journals are accepted");
+    lengths
+}
+
+#[test]
+fn short_journals_have_no_number_of_three_bytes() {
+    for kind in ["short", "short-claims"] {
+        for (place, counts) in lengths_of(kind).0 {
+            assert_eq!(counts[2..], [0, 0], "{kind} at {place:?}");
+        }
+    }
+}
+
+#[test]
+fn claims_are_as_many_as_there_may_be() {
+    for kind in ["claims", "short-claims"] {
+        let Lengths(found) = lengths_of(kind);
+        for (of, count) in [(kind::HOME_TRADE, 128), (kind::SENT_ORDER, 256), (kind::SATISFACTION_ORDER, 512)] {
+            assert_eq!(found[&(of, 0)].iter().sum::<usize>(), count, "{kind}");
+        }
+    }
+}
+
+/// How many bytes a number may take, field by field. Trades are up to 128, sent orders 256, Satisfaction Orders 512; of a
+/// batch the first quote is looked at.
+const MOST_BYTES: [(u32, &[usize]); 10] = [
+    (kind::QUOTE, &[1, 1, 3, 3, 3, 3, 3, 3]),
+    (kind::STATUS, &[1, 1]),
+    (kind::HOME_TRADE, &[1, 3, 3, 1, 1, 1, 3]),
+    (kind::SENT_ORDER, &[1, 1, 1, 1, 3, 3]),
+    (kind::RESPONSE, &[2, 3]),
+    (kind::RECEIVED_ORDER, &[1, 1, 1, 1, 3, 3]),
+    (kind::SATISFACTION_ORDER, &[1, 1, 3, 3]),
+    (kind::CANCELLATION, &[2, 1]),
+    (kind::NO_BLOCK, &[2]),
+    (kind::BATCH, &[1, 1, 1, 3, 3, 3, 3, 3, 3]),
+];
+
+#[test]
+fn numbers_of_every_length_stand_at_every_place_that_allows_them() {
+    let Lengths(found) = lengths_of("lengths");
+    let often = 8;
+    for (kind, fields) in MOST_BYTES {
+        for (place, &most) in [3].iter().chain(fields).enumerate() {
+            let counts = found[&(kind, place)];
+            assert!(counts[..most].iter().all(|&count| count >= often), "{kind} at {place}: {counts:?}");
+        }
+    }
+    let pauses_of_four_bytes: usize = MOST_BYTES.iter().map(|&(kind, _)| found[&(kind, 0)][3]).sum();
+    assert!(pauses_of_four_bytes >= 2 * often);
 }
 
 #[test]

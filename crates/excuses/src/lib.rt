@@ -99,7 +99,7 @@ fn outlives(t: &[u32; 2048], m: usize, bid: u32, offer: u32) -> bool
 
 // A quote ends the excuses that it backs away from. Orders whose excuse has ended leave the chain, so that no later quote or
 // trade looks at them again.
-fn quoted(t: &mut [u32; 2048], ch: &mut [u32; 512], n: usize, r: Rec)
+pub fn quoted(t: &mut [u32; 2048], ch: &mut [u32; 512], n: usize, r: Rec)
     requires { ⌜ r .kind ≡ quoteKind ⌝ }
     requires { ⌜ QuoteOk 8 r ⌝ }
     requires { ⌜ Chains (now t) (now ch) n ⌝ }

@@ -1,6 +1,6 @@
 -- A record of any kind: its row, where it is judged or a Satisfaction Order, is its line of the printed day.
 use mathlib.Core.Path.{_≡_, refl, sym, ap, _∙_}
-use mathlib.Core.Bool.{true, false, _&&_}
+use mathlib.Core.Bool.{Bool, true, false, not, _&&_}
 use mathlib.Core.List.{List, [], _∷_, _++_, flatMap, append-nil}
 use Prim.Native.Nat.{ℕ, _+_, _*_, _%_, _<_, _≤_}
 use Prim.Native.String.{String}
@@ -21,10 +21,12 @@ use Rattle.rules.proofs.Journals.{numbersOf, numbersIn}
 use Rattle.rows.specs.declared.Rec.{Rec}
 use Rattle.periods.specs.Periods.{Tidy}
 use Rattle.periods.proofs.Keeping.{periods-stay}
-use Rattle.market.specs.Judged.{judgedAs, JudgedIs}
+use Rattle.home.specs.Home.{homesOf}
+use Rattle.market.specs.Judged.{judgedAs, JudgedIs, QuoteJudged}
 use Rattle.market.specs.declared.Judged.{Judged}
 use Rattle.market.specs.declared.Judged.the-variants.{Nothing, Q, S, R, T}
-use Rattle.list.specs.Listing.{orderLetter, textFrom, Listing, RowPut, JudgedPut, Noted}
+use Rattle.market.proofs.Judging.{away-judged, it-is-home}
+use Rattle.list.specs.Listing.{orderLetter, textFrom, Listing, RowPut, JudgedPut, Noted, QuoteNoted}
 use Rattle.list.proofs.Rows.{text-none, put-verdict, put-order}
 
 -- the list of no records
@@ -182,3 +184,31 @@ pub judged-length : (list : List ℕ) (n event : ℕ) (v : Judged) (list2 : List
 judged-length list n event v list2 n2 p = p .long
 
 pub ruleset note-laws = (no-room, order-noted, verdict-noted, put-length, judged-length)
+
+-- ---- a quote
+
+module _ (list : List ℕ) (n : ℕ) (q periods : List ℕ) (exchanges home event : ℕ) (r : Rec) (k : r .kind ≡ quoteKind) where
+  no-order : r .kind ≡ satisfactionKind → ⊥
+  no-order z = omega (arith, z, k)
+
+  pub quote-away : (b : Bool) → b ≡ homesOf r home → not b ≡ true → Tidy periods → QuoteNoted list n q periods exchanges home event r list periods n
+  quote-away b eb z tidy =
+      record {
+        so = λ st sizes sent trades lines.
+            verdict-noted list n q st periods exchanges home sizes sent trades lines event r list n no-order Nothing periods
+            (away-judged q periods exchanges home r k b eb z tidy .so st sizes sent trades)
+            (nothing-put list n event Nothing refl);
+      }
+
+  pub quote-no-room : length list < (n + 1) * 5 → Tidy periods → QuoteNoted list n q periods exchanges home event r list periods n
+  quote-no-room short tidy = record { so = λ st sizes sent trades lines. no-room list n q st periods exchanges home sizes sent trades lines event r short tidy }
+
+  pub quote-noted : (v : Judged) (periods2 : List ℕ) → QuoteJudged q periods exchanges home r periods2 v → (list2 : List ℕ) (n2 : ℕ) → JudgedPut list n event v list2 n2
+      → QuoteNoted list n q periods exchanges home event r list2 periods2 n2
+  quote-noted v periods2 is list2 n2 p =
+      record {
+        so = λ st sizes sent trades lines.
+            verdict-noted list n q st periods exchanges home sizes sent trades lines event r list2 n2 no-order v periods2 (is .so st sizes sent trades) p;
+      }
+
+pub ruleset note-quote-laws = (quote-away, quote-no-room, quote-noted, it-is-home, judged-length)

@@ -105,3 +105,7 @@ pub record Noted (list : List ℕ) (n : ℕ) (q st periods : List ℕ) (exchange
   pub tidy : Tidy periods2
   pub long : length list2 ≡ length list
   pub more : n2 ≤ n + 1
+
+-- a quote: nothing of statuses, sizes and counts decides
+pub record QuoteNoted (list : List ℕ) (n : ℕ) (q periods : List ℕ) (exchanges home event : ℕ) (r : Rec) (list2 periods2 : List ℕ) (n2 : ℕ) : Type 0 where
+  pub so : (st sizes : List ℕ) (sent trades lines : ℕ) → Noted list n q st periods exchanges home sizes sent trades lines event r list2 periods2 n2

@@ -1,12 +1,14 @@
 // The day's list of verdicts, kept as rows while the journal is walked: a refusal writes nothing to lent memory, and what is
 // printed of a Satisfaction Order is known only when the whole journal is. `printed` prints it then.
+ghost use mathlib.Core.Path.{_≡_};
 ghost use Prim.Native.Nat.{_+_, _*_, _≤_};
 ghost use lib.ListN.{length};
 ghost use Rattle.rules.specs.Limits.{mostTrades, mostSentOrders, mostSatisfactionOrders};
+ghost use Rattle.rules.specs.Record.{quoteKind};
 ghost use Rattle.rows.specs.Rows.{RecOk};
 ghost use Rattle.orders.specs.Orders.{Headed};
 ghost use Rattle.periods.specs.Periods.{Tidy};
-ghost use Rattle.list.specs.Listing.{mostRecords, RowPut, JudgedPut, Noted};
+ghost use Rattle.list.specs.Listing.{mostRecords, RowPut, JudgedPut, Noted, QuoteNoted};
 use market::Judged;
 use periods::Period;
 use rows::Numbers;
@@ -58,6 +60,31 @@ fn put_judged(list: &mut [u32], n: usize, event: u32, v: Judged) -> usize
         Judged::R(a, b, c) => put_shown(list, n, event, What::RECEIVED, a, b, c),
         Judged::T(a, b, c) => put_shown(list, n, event, What::TRADE, a, b, c),
     }
+}
+
+// A quote; away quotes print nothing.
+pub fn note_quote(
+    list: &mut [u32],
+    n: usize,
+    quotes: &[u32; 2048],
+    periods: &mut [u32; Period::WORDS],
+    seat: Seat,
+    event: usize,
+    r: Rec,
+) -> usize
+    requires { ⌜ Headed (seat .exchanges) (seat .home) × RecOk (seat .exchanges) (seat .home) r ⌝ }
+    requires { ⌜ (r .kind ≡ quoteKind) × (n ≤ mostRecords) × (event ≤ mostRecords) × Tidy (now periods) ⌝ }
+    ensures { λ k. ⌜ QuoteNoted (now (list .entry)) n (now (quotes .entry)) (now (periods .entry)) (seat .exchanges) (seat .home) event r (now (list .exit)) (now (periods .exit)) k ⌝ }
+{
+    if !home::is_home(r, seat.home) {
+        return n;
+    }
+    if list.len() < (n + 1) * Row::WORDS {
+        return n;
+    }
+    let record = event as u32;
+    let v = market::judge_quote(quotes, periods, seat.exchanges, seat.home, r);
+    put_judged(list, n, record, v)
 }
 
 // One event of any kind; `before` counts what came before it, and `event` the records before its own. Where the list has no room nothing is

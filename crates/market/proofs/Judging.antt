@@ -1,5 +1,5 @@
 -- What is printed of a record: the kind decides, one law for each.
-use mathlib.Core.Path.{_≡_, _∙_, sym, ap}
+use mathlib.Core.Path.{_≡_, refl, _∙_, sym, ap}
 use mathlib.Core.Bool.{Bool, true, false, not, and-false, true≢false}
 use mathlib.Core.List.{List}
 use Prim.Native.Nat.{ℕ, _<_}
@@ -25,7 +25,7 @@ use Rattle.periods.proofs.Keeping.{periods-stay}
 use Rattle.home.specs.Home.{homesOf, QuoteIs, SameQuote, againstAs, AgainstIs}
 use Rattle.through.proofs.TradeVerdicts.{trade-is, series-low}
 use Rattle.through.specs.Trades.{TradeIs, CountIs, BlockIs}
-use Rattle.market.specs.Judged.{judgedAs, QuoteSays, SentSays, DutySays, JudgedIs}
+use Rattle.market.specs.Judged.{judgedAs, QuoteSays, SentSays, DutySays, JudgedIs, QuoteJudged}
 use Rattle.market.specs.declared.Judged.{Judged}
 use Rattle.market.specs.declared.Judged.the-variants.{Nothing, Q, S, R, T}
 use Rattle.home.specs.declared.HomeQuote.{HomeQuote}
@@ -187,6 +187,23 @@ module _ (q st periods : List ℕ) (n home : ℕ) (sizes : List ℕ) (sent trade
             (λ h e past hd reads held hs es et event.
             rw (kind-not r e reads 1 n1, kind-not r e reads 4 n4, kind-not r e reads 6 n6, kind-not r e reads 3 n3))
 
+-- ---- a quote by itself
+
+module _ (q periods : List ℕ) (n home : ℕ) (r : Rec) (k : r .kind ≡ quoteKind) where
+  pub home-judged : homesOf r home ≡ true → (v : Against) (a : Judged) → QuoteSays v a → (w : HomeQuote) → AgainstIs q n home w v → QuoteIs r w → (periods2 : List ℕ) → Requoted r periods periods2
+      → QuoteJudged q periods n home r periods2 a
+  home-judged z v a says w against is periods2 marked =
+      record { so = λ st sizes sent trades. judged-home q st periods n home sizes sent trades r k (homesOf r home) refl (rw z) v a says w against is periods2 marked }
+
+  pub away-judged : (b : Bool) → b ≡ homesOf r home → not b ≡ true → Tidy periods → QuoteJudged q periods n home r periods Nothing
+  away-judged b eb z tidy = record { so = λ st sizes sent trades. judged-away q st periods n home sizes sent trades r k b eb z tidy }
+
+  pub judged-as-quote : (st sizes : List ℕ) (sent trades : ℕ) (periods2 : List ℕ) (a : Judged) → QuoteJudged q periods n home r periods2 a → JudgedIs q st periods n home sizes sent trades r periods2 a
+  judged-as-quote st sizes sent trades periods2 a is = is .so st sizes sent trades
+
+pub it-is-home : (r : Rec) (home : ℕ) (b : Bool) → b ≡ homesOf r home → not b ≡ false → homesOf r home ≡ true
+it-is-home r home b eb n = sym eb ∙ not-false b n
+
 -- ---- what the callees require
 
 module _ (n home : ℕ) (r : Rec) (ok : RecOk n home r) where
@@ -208,4 +225,4 @@ module _ (n home : ℕ) (r : Rec) (ok : RecOk n home r) where
         low = order-series n home r g o is;
       }
 
-pub ruleset judge-laws = (says-clear, says-locked, says-crossed, says-fine, says-not-shown, says-not-best, says-none, says-whole, says-least, judged-away, judged-home, judged-sent, judged-received, judged-trade, judged-other, quote-series, count-fits, trade-series, sent-within)
+pub ruleset judge-laws = (says-clear, says-locked, says-crossed, says-fine, says-not-shown, says-not-best, says-none, says-whole, says-least, home-judged, judged-away, it-is-home, judged-as-quote, judged-sent, judged-received, judged-trade, judged-other, quote-series, count-fits, trade-series, sent-within)

@@ -46,3 +46,7 @@ pub record JudgedIs (q st periods : List ℕ) (n home : ℕ) (sizes : List ℕ) 
       → sent ≡ count isSent past → trades ≡ count isTrade past → (event : ℕ) → judgedAs event a ≡ judged h event past e
   pub kept : (h : Header) (e : Event) (past : History) → Heads h n home sizes → Reads e r → Quoted past q → Statuses past st → Periods h past periods
       → Periods h (e ∷ past) periods2
+
+-- a quote: neither statuses nor sizes, orders or trades before it decide
+pub record QuoteJudged (q periods : List ℕ) (n home : ℕ) (r : Rec) (periods2 : List ℕ) (a : Judged) : Type 0 where
+  pub so : (st sizes : List ℕ) (sent trades : ℕ) → JudgedIs q st periods n home sizes sent trades r periods2 a

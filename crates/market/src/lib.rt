@@ -1,10 +1,14 @@
 // What is printed of a record: the verdict on a home quote, an order or a trade, as a letter and three numbers.
+ghost use mathlib.Core.Path.{_≡_};
+ghost use mathlib.Core.Bool.{true};
 ghost use Prim.Native.Nat.{_≤_};
 ghost use Rattle.rules.specs.Limits.{mostTrades, mostSentOrders};
+ghost use Rattle.rules.specs.Record.{quoteKind};
 ghost use Rattle.rows.specs.Rows.{RecOk};
 ghost use Rattle.orders.specs.Orders.{Headed};
 ghost use Rattle.periods.specs.Periods.{Tidy};
-ghost use Rattle.market.specs.Judged.{QuoteSays, SentSays, DutySays, JudgedIs};
+ghost use Rattle.home.specs.Home.{homesOf};
+ghost use Rattle.market.specs.Judged.{QuoteSays, SentSays, DutySays, JudgedIs, QuoteJudged};
 use home::Against;
 use orders::Duty;
 use orders::Sent;
@@ -50,6 +54,22 @@ fn duty_says(v: Duty) -> Judged
     }
 }
 
+// A home quote, which is also a later quote of the periods that stand.
+pub fn judge_quote(
+    quotes: &[u32; 2048],
+    periods: &mut [u32; Period::WORDS],
+    exchanges: usize,
+    home: usize,
+    r: Rec,
+) -> Judged
+    requires { ⌜ Headed exchanges home × RecOk exchanges home r ⌝ }
+    requires { ⌜ (r .kind ≡ quoteKind) × (homesOf r home ≡ true) × Tidy (now periods) ⌝ }
+    ensures { λ a. ⌜ QuoteJudged (now (quotes .entry)) (now (periods .entry)) exchanges home r (now (periods .exit)) a ⌝ }
+{
+    periods::keep_requotes(periods, r);
+    quote_says(home::home_quote(quotes, exchanges, home, home::quote_of(r)))
+}
+
 // "Away quotes, statuses and responses print nothing."; what is printed of a Satisfaction Order is our own sheet's.
 // `sent` and `trades` count the sent orders and the trades before this record; `periods` stands as before it, and then as after it.
 pub fn judge(
@@ -71,8 +91,7 @@ pub fn judge(
         if !home::is_home(r, home) {
             return Judged::Nothing;
         }
-        periods::keep_requotes(periods, r);
-        return quote_says(home::home_quote(q, n, home, home::quote_of(r)));
+        return judge_quote(q, periods, n, home, r);
     }
     if r.kind == Rec::SENT {
         let number = sent as u32;

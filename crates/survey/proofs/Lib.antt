@@ -1,2 +1,4 @@
 pub mod Surveying
+pub mod Quoting
+pub mod Looping
 pub mod Beginning

@@ -1,19 +1,20 @@
 -- The step over all tables is the steps over each; the start; where a record that the reader has passed goes.
 use mathlib.Core.Path.{_≡_}
-use mathlib.Core.Bool.{Bool}
+use mathlib.Core.Bool.{Bool, false}
 use mathlib.Core.List.{List, []}
 use Prim.Native.Nat.{ℕ, _<_, _≤_}
 use native.Mathlib.Omega.{arith}
 use lib.ListN.{replicate}
 use Rattle.rules.specs.Limits.{mostTradeLines}
 use Rattle.rules.specs.Header.{Header}
-use Rattle.rules.specs.Record.{tradeKind, sentKind, responseKind, satisfactionKind, namingKind, cancellationKind}
+use Rattle.rules.specs.Record.{quoteKind, tradeKind, sentKind, responseKind, satisfactionKind, namingKind, cancellationKind}
 use Rattle.rows.specs.Rows.{word, RecOk}
 use Rattle.rows.specs.declared.Rec.{Rec}
 use Rattle.quotes.specs.Tables.{QuotesStep, StatusesStep}
 use Rattle.quotes.proofs.Quotes as quote-laws
 use Rattle.quotes.proofs.Statuses as status-laws
 use Rattle.through.specs.Trades.{BlockFound}
+use Rattle.through.proofs.TradeVerdicts.{block-none}
 use Rattle.excuses.specs.Excuses.{ExcusesStep}
 use Rattle.excuses.proofs.Steps as excuse-laws
 use Rattle.trades.specs.Trades.{TradesStep}
@@ -44,6 +45,19 @@ all-kept r home exchanges close sizes block q st t tr sn cl c closing q2 st2 t2 
             lined = by-claim .so h sizes e past arrived is ec rd (held .traded) (held .lined);
           };
     }
+
+-- a quote, of which the other tables keep nothing
+pub quote-kept : (r : Rec) (home exchanges close : ℕ) (sizes : List ℕ) (q st t ch tr sn cl : List ℕ) (c : Numbers) (closing : Bool) (q2 t2 ch2 : List ℕ) → r .kind ≡ quoteKind
+    → Orderly t ch cl c → QuotesStep r q q2 → ExcusesStep r t (c .orders) t2 ch2 (c .orders)
+    → TablesStep r home exchanges close sizes q st t tr sn cl c closing q2 st t2 ch2 tr sn cl (record { numbers = c; block = false })
+quote-kept r home exchanges close sizes q st t ch tr sn cl c closing q2 t2 ch2 k orderly by-quote by-order =
+    all-kept r home exchanges close sizes false q st t tr sn cl c closing q2 st t2 ch2 tr sn cl (c .orders) (c .trades) (c .lines)
+    (block-none q exchanges r (λ z. omega (arith, z, k)))
+    (line-laws.no-order r home exchanges close tr sn (c .trades) cl (c .lines) (orderly .filing) (λ z. omega (arith, z, k)) (λ z. omega (arith, z, k)) (λ z. omega (arith, z, k)))
+    (trade-laws.no-trade r home exchanges sizes false closing q st t (c .orders) tr sn (c .trades) (orderly .few) (λ z. omega (arith, z, k)))
+    by-order
+    by-quote
+    (status-laws.statuses-kept r st (λ z. omega (arith, z, k)))
 
 -- what refusals 7 and 8 have left
 pub record Room (r : Rec) (cl : List ℕ) (c : Numbers) : Type 0 where

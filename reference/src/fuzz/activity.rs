@@ -4,7 +4,7 @@ use super::batching::Last;
 use super::chance::Chance;
 use super::values;
 use crate::header::Header;
-use crate::number::put;
+use crate::number::{Number, put};
 use crate::record::kind;
 
 pub(super) const LAST_TIME: u32 = 86_399_999;
@@ -83,6 +83,8 @@ pub struct Activity<'c> {
     /// The series that are traded.
     pub series: Vec<u32>,
     pub level: u32,
+    /// The largest pause, and the largest size that `quote` draws.
+    pub largest: u32,
     /// The away exchange with the least automatic size.
     pub(super) least: u32,
     /// Home's principal size.
@@ -134,6 +136,7 @@ impl<'c> Activity<'c> {
             time: 0,
             series,
             level,
+            largest: Number::LARGEST,
             least: away_with_least_size(header),
             principal: header[2 + 2 * header[0] as usize],
             initiated: 25,
@@ -216,6 +219,7 @@ impl<'c> Activity<'c> {
             22 => self.chance.pick(&[59_999, 60_000, 60_001, 127, 128]),
             _ => self.chance.pick(&[179_999, 180_000, 180_001]),
         };
+        let milliseconds = milliseconds.min(self.largest);
         if milliseconds > LAST_TIME - self.time.min(LAST_TIME) { 0 } else { milliseconds }
     }
 
@@ -264,7 +268,7 @@ impl<'c> Activity<'c> {
     }
 
     pub fn quote(&mut self, exchange: u32, series: u32, prices: [u32; 2]) {
-        let size = values::contracts(self.chance);
+        let size = values::contracts(self.chance).min(self.largest);
         let held = values::customers(self.chance, size);
         self.quote_held(exchange, series, prices, size, held);
     }

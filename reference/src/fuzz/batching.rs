@@ -3,6 +3,7 @@
 
 use super::activity::{Activity, put_number};
 use super::chance::Chance;
+use super::places::BEFORE_QUOTES;
 use super::values;
 use crate::batch::Batch;
 use crate::record::kind;
@@ -12,9 +13,6 @@ pub type Quoted = [u32; Batch::NUMBERS_A_QUOTE];
 
 /// How a number may be stored that can't be read.
 const UNREADABLE: [&[u8]; 4] = [&[0x80, 0], &[0xE4, 0x80, 0], &[0x80, 0x80, 0x80, 0x80, 1], &[0xFF, 0xFF, 0xFF, 0xFF]];
-
-/// Numbers of a record before the quotes: kind, milliseconds, exchange, count.
-const BEFORE_QUOTES: usize = 4;
 
 /// A batch before it is stored, with all that may be wrong with it.
 #[derive(Clone)]
@@ -148,7 +146,7 @@ pub fn some_quotes(chance: &mut Chance, count: usize) -> Vec<Quoted> {
 /// How many quotes a batch has.
 pub fn count_of_quotes(chance: &mut Chance) -> usize {
     let some = 1 + chance.below(Batch::MOST_QUOTES);
-    chance.pick(&[1, 1, 2, 2, 3, 5, some, some, some, 31, 32, 32])
+    chance.pick(&[1, 1, 2, 2, 3, 5, some, some, 31, 32, 32, 32])
 }
 
 /// The quotes of the record that was added last, where it is one or a batch of them.

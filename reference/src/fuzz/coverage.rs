@@ -3,6 +3,7 @@
 use super::batched;
 use super::cancelled::{self, Cancelled};
 use super::followed;
+use super::placed::Placed;
 use super::sent_again::{self, SentAgain};
 use super::sheets::{accepted_header, desk_after};
 use crate::alone::Plain;
@@ -126,11 +127,14 @@ impl Closing {
 const ASKED_AFTER: &str = "claim above ten before the closing record, asked after it";
 
 #[derive(Default)]
-pub struct Coverage(BTreeMap<String, u64>);
+pub struct Coverage {
+    counts: BTreeMap<String, u64>,
+    placed: Placed,
+}
 
 impl Coverage {
     fn count(&mut self, what: impl Into<String>) {
-        *self.0.entry(what.into()).or_default() += 1;
+        *self.counts.entry(what.into()).or_default() += 1;
     }
 
     fn count_all(&mut self, all: impl IntoIterator<Item = String>) {
@@ -141,6 +145,12 @@ impl Coverage {
 
     pub fn note(&mut self, question: &Question, answer: &Answer) {
         self.count(format!("answer {}", answer.no));
+        match (question.op, answer.no) {
+            (op::READ_RECORD, 3 | 98) => {}
+            (op::READ_RECORD, _) => self.placed.note_alone(&question.b),
+            (op::JOURNAL..=op::TOTALS | op::REWRITE, _) => self.placed.note_journal(&question.a),
+            _ => {}
+        }
         if (op::JOURNAL..=op::TOTALS).contains(&question.op) {
             match accepted_header(&question.a) {
                 Some(header) => self.note_journal(&header, &question.a),
@@ -373,10 +383,11 @@ impl Coverage {
 
     /// Prints what was reached how often, beside the answers' numbers, and answers what was not.
     pub fn print(&self) -> Vec<String> {
-        for (what, count) in self.0.iter().filter(|(what, _)| !what.starts_with("answer")) {
+        for (what, count) in self.counts.iter().filter(|(what, _)| !what.starts_with("answer")) {
             println!("{what:60} {count:9}");
         }
-        wanted().filter(|what| !self.0.contains_key(what)).collect()
+        let missing = self.placed.print();
+        wanted().filter(|what| !self.counts.contains_key(what)).chain(missing).collect()
     }
 }
 

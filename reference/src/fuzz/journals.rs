@@ -96,20 +96,20 @@ pub fn journal_with_orders(chance: &mut Chance) -> Vec<u8> {
 
 pub fn journal(chance: &mut Chance) -> Vec<u8> {
     let day = chance.weighted(&[
-        (420, Day::Usual),
-        (200, Day::WithFault),
-        (150, Day::WithFaultyCancellation),
-        (130, Day::WithFaultyNoBlock),
-        (220, Day::WithFaultyBatch),
-        (110, Day::Damaged),
-        (60, Day::OnlyHeader),
+        (320, Day::Usual),
+        (180, Day::WithFault),
+        (200, Day::WithFaultyCancellation),
+        (200, Day::WithFaultyNoBlock),
+        (320, Day::WithFaultyBatch),
+        (80, Day::Damaged),
+        (80, Day::OnlyHeader),
         (20, Day::Noise),
         (8, Day::ManyTrades),
         (8, Day::ManySent),
-        (24, Day::ManySatisfactions),
-        (4, Day::ManyRecords),
+        (36, Day::ManySatisfactions),
+        (6, Day::ManyRecords),
         (12, Day::Full),
-        (20, Day::FullOfBatches),
+        (30, Day::FullOfBatches),
         (6, Day::TooLong),
     ]);
     match day {
@@ -244,6 +244,8 @@ fn many_satisfactions(chance: &mut Chance) -> Vec<u8> {
     for trade in (1..day.trades()).cycle().take(20 * 128) {
         let away = day.away();
         if day.satisfactions() + (by_second as usize) < wanted {
+            // The last may be said to be for no block.
+            day.as_block = if day.satisfactions() + 1 == wanted { 100 } else { day.as_block };
             day.satisfaction(trade, away);
         }
     }

@@ -3,7 +3,7 @@
 use super::activity::put_number;
 use super::batching::{self, Drawn};
 use super::chance::Chance;
-use super::{faults, journals, sheets, values};
+use super::{faults, journals, reading, sheets, values};
 use crate::alone::Plain;
 use crate::ask::{Question, op};
 use crate::batch::Batch;
@@ -12,16 +12,21 @@ use crate::record::kind;
 
 pub fn question(seed: u64, number: u64) -> Question {
     let chance = &mut Chance::new(seed, number);
+    if number % reading::ONE_IN == reading::ONE_IN - 1 {
+        let mut question = reading::question(chance, seed, number / reading::ONE_IN);
+        question.cap = mostly_enough(chance, &question);
+        return question;
+    }
     let asked = chance.weighted(&[
-        (10, op::JOURNAL),
+        (11, op::JOURNAL),
         (22, op::DAY),
         (14, op::SHEET),
-        (22, op::CHECK),
+        (26, op::CHECK),
         (8, op::TOTALS),
-        (7, op::WRITE_HEADER),
+        (5, op::WRITE_HEADER),
         (16, op::WRITE_RECORD),
         (16, op::READ_RECORD),
-        (6, op::REWRITE),
+        (4, op::REWRITE),
         (2, 0),
     ]);
     let mut question = match asked {
@@ -38,10 +43,20 @@ pub fn question(seed: u64, number: u64) -> Question {
     question
 }
 
+fn bytes_needed(question: &Question) -> u32 {
+    let plenty = Question { cap: Question::MOST, ..question.clone() };
+    plenty.answer().bytes.len() as u32
+}
+
+/// The lent output where what is written tells more than that it has room.
+fn mostly_enough(chance: &mut Chance, question: &Question) -> u32 {
+    let needed = bytes_needed(question);
+    chance.weighted(&[(8, needed), (1, needed.saturating_sub(1)), (1, needed + 100)])
+}
+
 /// The lent output: just enough, one byte too few, none, plenty.
 fn cap(chance: &mut Chance, question: &Question) -> u32 {
-    let plenty = Question { cap: Question::MOST, ..question.clone() };
-    let needed = plenty.answer().bytes.len() as u32;
+    let needed = bytes_needed(question);
     let some = chance.between(0, needed);
     let more = needed + chance.between(1, 100);
     chance
@@ -57,7 +72,7 @@ fn cap(chance: &mut Chance, question: &Question) -> u32 {
         .min(Question::MOST)
 }
 
-fn words(numbers: &[u32]) -> Vec<u8> {
+pub(super) fn words(numbers: &[u32]) -> Vec<u8> {
     numbers.iter().flat_map(|number| number.to_le_bytes()).collect()
 }
 
@@ -70,7 +85,7 @@ fn write_record(chance: &mut Chance) -> Question {
     let header = journals::header_numbers(chance);
     let mut record = values::record_or_near(chance, &header);
     let mut time = values::time_so_far(chance, record.milliseconds);
-    if chance.one_in(3) {
+    if chance.one_in(2) {
         let fields = spoiled_batch(chance, &header).fields();
         (time, record) = (chance.pick(&[0, 0, 0, time]), Plain { kind: kind::BATCH, milliseconds: 0, fields });
         if chance.one_in(5) {
@@ -118,7 +133,7 @@ fn given_fields(chance: &mut Chance, record: &Plain<Vec<u32>>) -> Vec<u32> {
 fn read_record(chance: &mut Chance) -> Question {
     let header = journals::header_numbers(chance);
     let mut bytes = Vec::new();
-    let time = if chance.one_in(3) {
+    let time = if chance.one_in(2) {
         put_batch(chance, &header, &mut bytes)
     } else {
         let record = values::record_or_near(chance, &header);

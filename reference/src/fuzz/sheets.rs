@@ -118,7 +118,7 @@ impl Draft<'_> {
     /// filled in the second's place, or neither, or the first is given no reason; or what is left is shared otherwise.
     fn take_sent_again_otherwise(&mut self, chance: &mut Chance, sent_again: &SentAgain) {
         let otherwise = own_lines(if chance.one_in(2) { &sent_again.as_first } else { &sent_again.without_end });
-        let how = chance.pick(&[0, 1, 2, 2, 3, 3, 3, 4, 5, 6, 7, 8, 9, 10]);
+        let how = chance.pick(&[0, 1, 2, 2, 3, 3, 3, 3, 3, 4, 5, 6, 7, 8, 9, 9, 9, 10]);
         for (order, other) in otherwise.into_iter().enumerate() {
             let late = self.desk.lines[order].reason == reason::SENT_AGAIN_LATE;
             match (how, sent_again.first_of(order)) {

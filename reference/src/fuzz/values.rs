@@ -179,7 +179,7 @@ pub fn quote_fields(chance: &mut Chance, exchanges: u32) -> [u32; Record::MOST_F
 /// stored.
 pub fn record_or_near(chance: &mut Chance, header: &[u32; Header::NUMBERS]) -> Plain<Vec<u32>> {
     let exchanges = header[1].clamp(2, 8);
-    let kind = chance.pick(&[1, 2, 3, 4, 5, 6, 7, 8, 8, 8, 9, 9, 10, 10, 10, 10, 10, 10, 11, 11, 11]);
+    let kind = chance.pick(&[1, 2, 3, 4, 5, 6, 7, 8, 8, 8, 9, 9, 9, 10, 10, 10, 11, 11, 11]);
     let milliseconds = chance.pick(&[0, 0, 1, 127, 128, 1_000, 20_001, 16_384, 2_097_152, 86_399_999]);
     let mut record = Plain { kind, milliseconds, fields: own_fields(chance, kind, &[header[0].min(8), exchanges]) };
     match chance.below(12) {
@@ -213,16 +213,29 @@ const MEANT: [&[u8]; 12] =
 /// The same of a quote in a batch; its count is Q.
 const MEANT_IN_BATCH: &[u8; 7] = b"SPCCPCC";
 
+fn meant(kind: u32, field: usize) -> Option<&'static u8> {
+    match (kind, field.checked_sub(Batch::OPENING)) {
+        (kind::BATCH, Some(at)) => MEANT_IN_BATCH.get(at % Batch::NUMBERS_A_QUOTE),
+        _ => MEANT.get(kind as usize).and_then(|fields| fields.get(field)),
+    }
+}
+
+/// The largest that this field may be, where that takes more than one byte; else 0.
+pub fn most_of(kind: u32, field: usize) -> u32 {
+    match meant(kind, field) {
+        Some(b'P') => 1_000_000,
+        Some(b'C') => 100_000,
+        Some(b'D') => 600_000,
+        _ => 0,
+    }
+}
+
 /// A value at or just beyond an end of the range of this field, or one that can't be stored.
 pub fn near_an_end(chance: &mut Chance, kind: u32, field: usize, home: u32, exchanges: u32) -> u32 {
     if chance.one_in(6) {
         return chance.pick(&HUGE);
     }
-    let meant = match (kind, field.checked_sub(Batch::OPENING)) {
-        (kind::BATCH, Some(at)) => MEANT_IN_BATCH.get(at % Batch::NUMBERS_A_QUOTE),
-        _ => MEANT.get(kind as usize).and_then(|fields| fields.get(field)),
-    };
-    match meant {
+    match meant(kind, field) {
         Some(b'E') => chance.pick(&[0, 1, home, home, exchanges, exchanges.saturating_add(1)]),
         Some(b'S') => chance.pick(&[0, 31, 32]),
         Some(b'P') => chance.pick(&[0, 1, 1_000_000, 1_000_001]),

@@ -10,17 +10,8 @@ is-home-requires c κs = search (judge-laws, needs)
 returns : tie.Need-returns
 returns c = search (judge-laws, needs)
 
-keep-requotes-requires : tie.Need-keep-requotes-requires
-keep-requotes-requires c κs = search (judge-laws, needs)
-
-quote-of-requires : tie.Need-quote-of-requires
-quote-of-requires c κs = search (judge-laws, needs)
-
-home-quote-requires : tie.Need-home-quote-requires
-home-quote-requires c κs = search (judge-laws, needs)
-
-quote-says-requires : tie.Need-quote-says-requires
-quote-says-requires c κs = search (judge-laws, needs)
+judge-quote-requires : tie.Need-judge-quote-requires
+judge-quote-requires c κs = search (judge-laws, needs)
 
 returns-2 : tie.Need-returns-2
 returns-2 c = search (judge-laws, needs)
@@ -79,10 +70,7 @@ judge-spec =
     (tie.spec
     is-home-requires
     returns
-    keep-requotes-requires
-    quote-of-requires
-    home-quote-requires
-    quote-says-requires
+    judge-quote-requires
     returns-2
     cast-number
     order-of-requires
