@@ -21,7 +21,7 @@ use Rattle.claims.specs.Lines.{Filing}
 use Rattle.list.specs.Listing.{mostRows, listWords}
 use Rattle.printed.specs.Printing.{Prints}
 use Rattle.walk.proofs.Reaching.{journal-refused, journal-accepted}
-use Rattle.survey.specs.Survey.{Told, SurveyedAs}
+use Rattle.survey.specs.Survey.{OfTheDay, SurveyedAs}
 use Rattle.survey.specs.declared.Surveyed.{Surveyed}
 use Rattle.survey.specs.declared.Surveyed.the-variants.{Whole, Stopped}
 use Rattle.sheet.specs.Tables.{OwnFills}
@@ -64,20 +64,20 @@ unfolding leaves lentAfter
 refused-left x n p before e = rw e
 
 -- our own fills, and the list with them
-pub whole-printed : (cl tr : List ℕ) (trades lines : ℕ) (rows : List ℕ) (listed : ℕ) (fills : List ℕ)
-    → OwnFills cl tr trades lines (replicate 512 0) fills → (out out2 : List ℕ) (w : Written) → Prints rows listed cl fills lines out w out2
-    → (r : Rewritten) → r ≡ answeredAs w → DayPrinted cl tr trades lines rows listed out r out2
-whole-printed cl tr trades lines rows listed fills own out out2 w wrote r er =
+pub whole-printed : (claims trades : List ℕ) (traded lines : ℕ) (rows : List ℕ) (listed : ℕ) (fills : List ℕ)
+    → OwnFills claims trades traded lines (replicate mostSatisfactionOrders 0) fills → (out out2 : List ℕ) (w : Written) → Prints rows listed claims fills lines out w out2
+    → (r : Rewritten) → r ≡ answeredAs w → DayPrinted claims trades traded lines rows listed out r out2
+whole-printed claims trades traded lines rows listed fills own out out2 w wrote r er =
     record {
       so = λ d books listing.
           rw er
           (written-left (into (length out) (dayText d)) out out2 w
-          (wrote .so d tr trades books (own .so (journalOf d) books (length-replicate {A = ℕ} 512 0)) listing));
+          (wrote .so d trades traded books (own .so (journalOf d) books (length-replicate {A = ℕ} mostSatisfactionOrders 0)) listing));
     }
 
 -- ---- a journal that is refused
 
-module _ (s lent tr snaps cl list : List ℕ) (v : Surveyed) (sv : SurveyedAs s lent tr snaps cl list v) where
+module _ (s lent trades shown claims list : List ℕ) (v : Surveyed) (sv : SurveyedAs s lent trades shown claims list v) where
   module _ (n p : ℕ) (e : v ≡ Stopped n p) (out : List ℕ) where
     pub day-refused : leftBy (Unwritten n p) out ≡ leaves (writeDay s (length out)) out
     unfolding writeDay _>>=_
@@ -92,30 +92,30 @@ module _ (s lent tr snaps cl list : List ℕ) (v : Surveyed) (sv : SurveyedAs s 
 
   -- ---- a journal that is accepted
 
-  module _ (trades lines listed : ℕ) (e : v ≡ Whole trades lines listed) where
-    told : Told s tr snaps cl list trades lines listed
-    told = sv .whole trades lines listed e
+  module _ (traded lines listed : ℕ) (e : v ≡ Whole traded lines listed) where
+    told : OfTheDay s trades shown claims list traded lines listed
+    told = sv .whole traded lines listed e
 
     accepted : journal s ≡ ok (journalOf (told .day-is))
     accepted = journal-accepted s (told .day-is) (told .accepted)
 
-    pub few-trades : trades ≤ mostTrades
+    pub few-trades : traded ≤ mostTrades
     few-trades = told .few-trades
 
-    pub lines-filed : Filing cl lines
+    pub lines-filed : Filing claims lines
     lines-filed = told .books .filing
 
     pub few-lines : lines ≤ mostSatisfactionOrders
     few-lines = told .books .filing .few
 
-    pub sheet-written : (out out2 : List ℕ) (w : Written) → OwnWritten cl tr trades lines out w out2 → (r : Rewritten) → r ≡ answeredAs w
+    pub sheet-written : (out out2 : List ℕ) (w : Written) → OwnWritten claims trades traded lines out w out2 → (r : Rewritten) → r ≡ answeredAs w
         → leftBy r out2 ≡ leaves (writeSheet s (length out)) out
     unfolding writeSheet _>>=_
     sheet-written out out2 w wrote r er =
         rw (er, accepted) (written-left (into (length out) (ownSheet (journalOf (told .day-is)))) out out2 w (wrote .so (journalOf (told .day-is)) (told .books)))
 
-    pub sheet-checked : (sheet : List ℕ) (r : Checked) → CheckedAs cl tr trades lines sheet r → checkedAs r ≡ checkSheet s sheet
-    sheet-checked sheet r c = whole-check s sheet (journalOf (told .day-is)) accepted cl tr trades lines (told .books) r c
+    pub sheet-checked : (sheet : List ℕ) (r : Checked) → CheckedAs claims trades traded lines sheet r → checkedAs r ≡ checkSheet s sheet
+    sheet-checked sheet r c = whole-check s sheet (journalOf (told .day-is)) accepted claims trades traded lines (told .books) r c
 
     module _ (full : length lent ≡ listWords) where
       pub full-rows : length list ≡ listWords
@@ -124,7 +124,7 @@ module _ (s lent tr snaps cl list : List ℕ) (v : Surveyed) (sv : SurveyedAs s 
       pub few-rows : listed ≤ mostRows
       few-rows = told .few-listed full-rows
 
-      pub day-printed : (out out2 : List ℕ) (r : Rewritten) → DayPrinted cl tr trades lines list listed out r out2
+      pub day-printed : (out out2 : List ℕ) (r : Rewritten) → DayPrinted claims trades traded lines list listed out r out2
           → leftBy r out2 ≡ leaves (writeDay s (length out)) out
       unfolding writeDay _>>=_
       day-printed out out2 r printed = rw (told .accepted) (printed .so (told .day-is) (told .books) (told .listing (sv .long ∙ full)))

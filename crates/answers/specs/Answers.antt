@@ -19,6 +19,6 @@ abbrev pub answeredAs : Written → Rewritten
 answeredAs (To bytes) = Wrote bytes
 answeredAs (Refused number) = Unwritten number 0
 
-pub record DayPrinted (cl tr : List ℕ) (trades lines : ℕ) (rows : List ℕ) (listed : ℕ) (before : List ℕ) (r : Rewritten) (after : List ℕ) : Type 0 where
-  pub so : (d : DayRecords) → Books (journalOf d) tr cl trades lines → DayListing d rows listed
+pub record DayPrinted (claims trades : List ℕ) (traded lines : ℕ) (rows : List ℕ) (listed : ℕ) (before : List ℕ) (r : Rewritten) (after : List ℕ) : Type 0 where
+  pub so : (d : DayRecords) → Books (journalOf d) trades claims traded lines → DayListing d rows listed
       → leftBy r after ≡ leaves (into (length before) (dayText d)) before

@@ -12,11 +12,14 @@ ghost use Rattle.list.specs.Listing.{mostRows, listWords};
 ghost use Rattle.checker.specs.Check.{checkedAs};
 ghost use Rattle.answers.specs.Answers.{answeredAs, DayPrinted};
 use claims::Line;
+use counted::SatisfactionOrder;
 use journal::Rewritten;
 use list::Row;
 use said::Checked;
 use survey::Surveyed;
 use text::Written;
+use trades::Shown;
+use trades::Trades;
 
 // "A writer's place is always 0"
 fn answered(w: Written) -> Rewritten
@@ -30,38 +33,38 @@ fn answered(w: Written) -> Rewritten
 
 // The list of a whole journal whose tables these are, F from our own sheet.
 fn print_whole(
-    cl: &[u32; Line::WORDS],
-    tr: &[u32; 1024],
-    trades: usize,
+    claims: &[u32; Line::WORDS],
+    trades: &[u32; Trades::WORDS],
+    traded: usize,
     lines: usize,
     rows: &[u32],
     listed: usize,
     out: &mut [u8],
 ) -> Rewritten
-    requires { ⌜ (trades ≤ mostTrades) × Filing (now cl) lines ⌝ }
+    requires { ⌜ (traded ≤ mostTrades) × Filing (now claims) lines ⌝ }
     requires { ⌜ (listed ≤ mostRows) × (length (now rows) ≡ listWords) × (lines ≤ mostSatisfactionOrders) ⌝ }
-    ensures { λ r. ⌜ DayPrinted (now (cl .entry)) (now (tr .entry)) trades lines (now (rows .entry)) listed (now (out .entry)) r (now (out .exit)) ⌝ }
+    ensures { λ r. ⌜ DayPrinted (now (claims .entry)) (now (trades .entry)) traded lines (now (rows .entry)) listed (now (out .entry)) r (now (out .exit)) ⌝ }
 {
-    let mut fills = [0u32; 512];
-    sheet::own_fills(cl, tr, trades, lines, &mut fills);
-    answered(printed::print(rows, listed, cl, &fills, lines, out))
+    let mut fills = [0u32; SatisfactionOrder::MOST];
+    sheet::own_fills(claims, trades, traded, lines, &mut fills);
+    answered(printed::print(rows, listed, claims, &fills, lines, out))
 }
 
 // "a list, each line ended by LF": the verdict on every event. The journal's refusal, then 9.
 pub fn print_day(s: &[u8], out: &mut [u8]) -> Rewritten
     ensures { λ r. ⌜ leftBy r (now (out .exit)) ≡ leaves (writeDay (now (s .entry)) (length (now (out .entry)))) (now (out .entry)) ⌝ }
 {
-    let mut tr = [0u32; 1024];
-    let mut snaps = [0u32; 8192];
-    let mut cl = [0u32; Line::WORDS];
+    let mut trades = [0u32; Trades::WORDS];
+    let mut shown = [0u32; Shown::WORDS];
+    let mut claims = [0u32; Line::WORDS];
     let mut rows = [0u32; Row::MOST * Row::WORDS];
-    match survey::survey(s, &mut tr, &mut snaps, &mut cl, &mut rows) {
+    match survey::survey(s, &mut trades, &mut shown, &mut claims, &mut rows) {
         Surveyed::Stopped { no, place } => Rewritten::Unwritten { no, place },
         Surveyed::Whole {
-            trades,
+            trades: traded,
             lines,
             listed,
-        } => print_whole(&cl, &tr, trades, lines, &rows, listed, out),
+        } => print_whole(&claims, &trades, traded, lines, &rows, listed, out),
     }
 }
 
@@ -69,17 +72,17 @@ pub fn print_day(s: &[u8], out: &mut [u8]) -> Rewritten
 pub fn write_sheet(s: &[u8], out: &mut [u8]) -> Rewritten
     ensures { λ r. ⌜ leftBy r (now (out .exit)) ≡ leaves (writeSheet (now (s .entry)) (length (now (out .entry)))) (now (out .entry)) ⌝ }
 {
-    let mut tr = [0u32; 1024];
-    let mut snaps = [0u32; 8192];
-    let mut cl = [0u32; Line::WORDS];
+    let mut trades = [0u32; Trades::WORDS];
+    let mut shown = [0u32; Shown::WORDS];
+    let mut claims = [0u32; Line::WORDS];
     let mut rows = [0u32; 1];
-    match survey::survey(s, &mut tr, &mut snaps, &mut cl, &mut rows) {
+    match survey::survey(s, &mut trades, &mut shown, &mut claims, &mut rows) {
         Surveyed::Stopped { no, place } => Rewritten::Unwritten { no, place },
         Surveyed::Whole {
-            trades,
+            trades: traded,
             lines,
             listed: _,
-        } => answered(sheet::write_own(&cl, &tr, trades, lines, out)),
+        } => answered(sheet::write_own(&claims, &trades, traded, lines, out)),
     }
 }
 
@@ -87,16 +90,16 @@ pub fn write_sheet(s: &[u8], out: &mut [u8]) -> Rewritten
 pub fn check_sheet(s: &[u8], sheet: &[u8]) -> Checked
     ensures { λ r. ⌜ checkedAs r ≡ checkSheet (now (s .entry)) (now (sheet .entry)) ⌝ }
 {
-    let mut tr = [0u32; 1024];
-    let mut snaps = [0u32; 8192];
-    let mut cl = [0u32; Line::WORDS];
+    let mut trades = [0u32; Trades::WORDS];
+    let mut shown = [0u32; Shown::WORDS];
+    let mut claims = [0u32; Line::WORDS];
     let mut rows = [0u32; 1];
-    match survey::survey(s, &mut tr, &mut snaps, &mut cl, &mut rows) {
+    match survey::survey(s, &mut trades, &mut shown, &mut claims, &mut rows) {
         Surveyed::Stopped { no, place } => Checked::Refused { no, place },
         Surveyed::Whole {
-            trades,
+            trades: traded,
             lines,
             listed: _,
-        } => checker::check_sheet(&cl, &tr, trades, lines, sheet),
+        } => checker::check_sheet(&claims, &trades, traded, lines, sheet),
     }
 }

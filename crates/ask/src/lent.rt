@@ -11,7 +11,7 @@ impl Lent {
     pub const LONG: u64 = 0xA5A5A5A5A5A5A5A5;
 
     // One more than the reader of a record writes at most, and one more than there are day totals: the last must be kept.
-    pub const WORDS: usize = desk::Numbers::RECORD_WORDS_MOST + 1;
+    pub const WORDS: usize = desk::Handed::RECORD_WORDS_MOST + 1;
 
     pub const LONGS: usize = 5;
 }

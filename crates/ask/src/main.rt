@@ -1,10 +1,10 @@
 // Questions on standard input, answers on standard output, until the input ends or a question cannot be read whole.
 ghost use Prim.Native.Nat.{_<_, _≤_};
+use desk::Handed;
 use feed::Input;
 use lent::Lent;
 use libc::STDIN_FILENO;
 use rows::Code;
-use words::Numbers;
 
 mod lent;
 mod words;
@@ -128,12 +128,12 @@ fn read_record(numbers: &[u32], b: &[u8]) -> bool {
 
 // The entries that are given numbers. They refuse an A that is no row of words as they refuse no numbers.
 fn numbered(op: u8, a: &[u8], b: &[u8], out: &mut [u8]) -> bool {
-    let mut row = [0u32; Numbers::MOST];
+    let mut row = [0u32; Handed::RECORD_MOST];
     let n = words::numbers_of(a, &mut row);
     of_row(op, &row, n, b, out)
 }
 
-fn of_row(op: u8, row: &[u32; Numbers::MOST], n: usize, b: &[u8], out: &mut [u8]) -> bool {
+fn of_row(op: u8, row: &[u32; Handed::RECORD_MOST], n: usize, b: &[u8], out: &mut [u8]) -> bool {
     first_numbers(op, row, n, b, out)
 }
 

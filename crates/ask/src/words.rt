@@ -1,12 +1,6 @@
 // Numbers of four and eight bytes, lowest byte first.
 ghost use Prim.Native.Nat.{_<_};
-
-pub struct Numbers;
-
-impl Numbers {
-    // as many as an entry takes at most
-    pub const MOST: usize = desk::Numbers::RECORD_MOST;
-}
+use desk::Handed;
 
 fn wide(x: u8) -> u32
     ensures { λ r. ⌜ r < 256 ⌝ }
@@ -40,11 +34,11 @@ pub fn put_word(b: &mut [u8], at: usize, x: u64) {
 }
 
 // How many words A is, and they themselves; none where A is no row of words that an entry may take.
-pub fn numbers_of(a: &[u8], numbers: &mut [u32; Numbers::MOST]) -> usize {
+pub fn numbers_of(a: &[u8], numbers: &mut [u32; Handed::RECORD_MOST]) -> usize {
     if a.len() % 4 != 0 {
         return 0;
     }
-    if a.len() > 4 * Numbers::MOST {
+    if a.len() > 4 * Handed::RECORD_MOST {
         return 0;
     }
     let mut i: usize = 0;

@@ -57,37 +57,37 @@ module _ (number size reason claim named filled cancelled : ℕ) (f c s : ℕ) (
 
 pub ruleset line-laws = (line-adds-not, line-reason-not, line-beyond, line-good)
 
-pub line-checked : (cl said : List ℕ) (i : ℕ) (r : Checked)
-    → LineJudged i (getD cl (i * 8 + 1) 0) (getD cl (i * 8 + 2) 0) (getD cl (i * 8 + 4) 0) (getD said (i * 3 + 0) 0) (getD said (i * 3 + 1) 0)
-    (getD said (i * 3 + 2) 0) r → checkedAs r ≡ checkLine (besideAt cl said i)
-line-checked cl said i r d = d .is (besideAt cl said i) refl refl refl refl refl refl refl
+pub line-checked : (claims said : List ℕ) (i : ℕ) (r : Checked)
+    → LineJudged i (getD claims (i * 8 + 1) 0) (getD claims (i * 8 + 2) 0) (getD claims (i * 8 + 4) 0) (getD said (i * 3 + 0) 0) (getD said (i * 3 + 1) 0)
+    (getD said (i * 3 + 2) 0) r → checkedAs r ≡ checkLine (besideAt claims said i)
+line-checked claims said i r d = d .is (besideAt claims said i) refl refl refl refl refl refl refl
 
 -- ---- line by line
 
-module _ (cl said : List ℕ) (n : ℕ) where
-  pub no-line-checked : LinesChecking cl said n 0
+module _ (claims said : List ℕ) (lines : ℕ) where
+  pub no-line-checked : LinesChecking claims said lines 0
   unfolding besides
   no-line-checked = record { rest = rw sub-zero; low = omega arith }
 
-  module _ (i : ℕ) (w : LinesChecking cl said n i) where
-    pub lines-checked : n ≤ i → ok tt ≡ checkLines (besides cl said n)
+  module _ (i : ℕ) (w : LinesChecking claims said lines i) where
+    pub lines-checked : lines ≤ i → ok tt ≡ checkLines (besides claims said lines)
     unfolding checkLines each
-    lines-checked h = let d : n - i ≡ 0 = omega arith in sym (w .rest ∙ rw d)
+    lines-checked h = let d : lines - i ≡ 0 = omega arith in sym (w .rest ∙ rw d)
 
-    module _ (h : i < n) (r : Checked) (e : checkedAs r ≡ checkLine (besideAt cl said i)) where
-      left : n - i ≡ suc (n - (i + 1))
+    module _ (h : i < lines) (r : Checked) (e : checkedAs r ≡ checkLine (besideAt claims said i)) where
+      left : lines - i ≡ suc (lines - (i + 1))
       left = omega arith
 
-      on : (a : Answer Passed) → a ≡ checkLine (besideAt cl said i)
-          → checkLines (besides cl said n) ≡ (a >>= λ _. checkLines (each (besideAt cl said) (i + 1) (n - (i + 1))))
+      on : (a : Answer Passed) → a ≡ checkLine (besideAt claims said i)
+          → checkLines (besides claims said lines) ≡ (a >>= λ _. checkLines (each (besideAt claims said) (i + 1) (lines - (i + 1))))
       unfolding checkLines each
       on a q = w .rest ∙ rw (left, q)
 
-      pub line-refused : (number place : ℕ) → r ≡ Refused number place → refused number place ≡ checkLines (besides cl said n)
+      pub line-refused : (number place : ℕ) → r ≡ Refused number place → refused number place ≡ checkLines (besides claims said lines)
       unfolding _>>=_
       line-refused number place g = sym (on (refused number place) (sym (ap checkedAs g) ∙ e))
 
-      pub line-passed : r ≡ Accepted → LinesChecking cl said n (i + 1)
+      pub line-passed : r ≡ Accepted → LinesChecking claims said lines (i + 1)
       unfolding _>>=_
       line-passed g = record { rest = on (ok tt) (sym (ap checkedAs g) ∙ e); low = omega arith }
 

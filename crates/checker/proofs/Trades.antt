@@ -9,6 +9,7 @@ use native.Mathlib.Omega.{arith}
 use lib.ListN.{length, take}
 use borrow.Author.Tests.{eq-eqb, ne-eqb, not-true, not-false}
 use Rattle.rules.specs.Basics.{_==_, below, keep, sum, Answer, refused, ok, _>>=_, Passed, demand}
+use Rattle.rules.specs.Limits.{mostTrades}
 use Rattle.rules.specs.Refusals.{notTheDueTotal, shareRuleBroken}
 use Rattle.rules.specs.Journal.{Journal}
 use Rattle.rules.specs.Due.{Line, lines, linesOf, ofTrade, due, Share, shareRule}
@@ -17,7 +18,7 @@ use Rattle.rules.specs.SheetCheck.{Beside, beside, checkLines, asShare, sharesO
 use Rattle.rules.proofs.Tests.{keep-sub, keep-map, map-all}
 use Rattle.rules.proofs.Below.{one-more-below}
 use Rattle.rules.proofs.Lines.{lines-known}
-use Rattle.claims.specs.Lines.{lineAt, linesFrom, manyOf, tradeLines, Gathered, DueIs}
+use Rattle.claims.specs.Lines.{lineIn, linesFrom, manyOf, tradeLines, Gathered, DueIs}
 use Rattle.claims.specs.Books.{Books}
 use Rattle.claims.proofs.TradeLines.{trade-findable, gathered-lines}
 use Rattle.rules.proofs.Giving.{Within}
@@ -41,9 +42,9 @@ each-below f (suc n) =
     rw add-one at (one-more-below f n) ∙ ap (λ l. l ++ (f n ∷ [])) (each-below f n)
     ∙ ap (λ (x : ℕ). each f 0 n ++ (f x ∷ [])) (sym (zero-add n)) ∙ sym (each-more f 0 n)
 
-pub lines-each : (j : Journal) (tr cl : List ℕ) (trades n : ℕ) → Books j tr cl trades n → lines j ≡ each (lineAt cl) 0 n
+pub lines-each : (j : Journal) (trades claims : List ℕ) (traded n : ℕ) → Books j trades claims traded n → lines j ≡ each (lineIn claims) 0 n
 unfolding lines linesFrom
-lines-each j tr cl trades n b = sym (b .lined .lines) ∙ each-below (lineAt cl) n
+lines-each j trades claims traded n b = sym (b .lined .lines) ∙ each-below (lineIn claims) n
 
 pub each-long : {A : Type 0} (f : ℕ → A) (i k : ℕ) → length (each f i k) ≡ k
 unfolding each
@@ -82,26 +83,26 @@ lines-filled said ls = map-map _ (filledAs said) ls ∙ map-id ls
 fills-filled : (said : List ℕ) (ls : List Line) → fillsOf (map (filledAs said) ls) ≡ map (fillOn said) ls
 fills-filled said ls = map-map _ (filledAs said) ls
 
-module _ (j : Journal) (tr cl : List ℕ) (trades n : ℕ) (b : Books j tr cl trades n) (said : List ℕ) where
-  besides-with : besides cl said n ≡ map (withSaid said) (lines j)
+module _ (j : Journal) (trades claims : List ℕ) (traded n : ℕ) (b : Books j trades claims traded n) (said : List ℕ) where
+  besides-with : besides claims said n ≡ map (withSaid said) (lines j)
   unfolding besides
-  besides-with = sym (each-map (withSaid said) (lineAt cl) 0 n) ∙ ap (map (withSaid said)) (sym (lines-each j tr cl trades n b))
+  besides-with = sym (each-map (withSaid said) (lineIn claims) 0 n) ∙ ap (map (withSaid said)) (sym (lines-each j trades claims traded n b))
 
   module _ (m : ℕ) where
-    trade-shares : sharesOf m (besides cl said n) ≡ map (filledAs said) (ofTrade m (lines j))
+    trade-shares : sharesOf m (besides claims said n) ≡ map (filledAs said) (ofTrade m (lines j))
     trade-shares = ap (sharesOf m) besides-with ∙ shares-with said m (lines j)
 
-    within : checkLines (besides cl said n) ≡ ok tt → Within (sharesOf m (besides cl said n))
+    within : checkLines (besides claims said n) ≡ ok tt → Within (sharesOf m (besides claims said n))
     unfolding sharesOf
     within e a mem =
-        map-all (λ (x : Share). x .filled ≤ x .line .claim) asShare (besides cl said n) (lines-within (besides cl said n) e) a
-        (keep-sub (λ (x : Share). x .line .trade == m) (map asShare (besides cl said n)) a mem)
+        map-all (λ (x : Share). x .filled ≤ x .line .claim) asShare (besides claims said n) (lines-within (besides claims said n) e) a
+        (keep-sub (λ (x : Share). x .line .trade == m) (map asShare (besides claims said n)) a mem)
 
-    module _ (hm : m < 128) (claim customers : List ℕ) (k : ℕ) (g : Gathered cl m claim customers k) where
+    module _ (hm : m < mostTrades) (claim customers : List ℕ) (k : ℕ) (g : Gathered claims m claim customers k) where
       lined : fairness.Lined (ofTrade m (lines j)) claim customers k
       unfolding lines
       lined =
-          let l = gathered-lines (j .header) (j .history) cl n m claim customers k hm (b .lined) g in
+          let l = gathered-lines (j .header) (j .history) claims n m claim customers k hm (b .lined) g in
           record {
             many = l .many;
             few = g .few;
@@ -114,9 +115,9 @@ module _ (j : Journal) (tr cl : List ℕ) (trades n : ℕ) (b : Books j tr cl tr
             customer-words = g .customer-words;
           }
 
-      shares-gathered : (fill : List ℕ) → FillsGathered cl said m fill → fairness.Gathered (sharesOf m (besides cl said n)) claim customers fill k
+      shares-gathered : (fill : List ℕ) → FillsGathered claims said m fill → fairness.Gathered (sharesOf m (besides claims said n)) claim customers fill k
       shares-gathered fill f =
-          let its : tradeLines cl m (manyOf cl m) ≡ ofTrade m (lines j) = unfold lines in b .lined .by-trade m hm in
+          let its : tradeLines claims m (manyOf claims m) ≡ ofTrade m (lines j) = unfold lines in b .lined .by-trade m hm in
           subst (λ (ss : List Share). fairness.Gathered ss claim customers fill k) (sym trade-shares)
           (record {
             lined = subst (λ (ls : List Line). fairness.Lined ls claim customers k) (sym (lines-filled said (ofTrade m (lines j)))) lined;
@@ -141,77 +142,77 @@ module _ (j : Journal) (bs : List Beside) (m : ℕ) where
     unfolding checkTrade _>>=_ demand
     both-met f = rw (eq-eqb _ _ e, f)
 
-module _ (cl tr : List ℕ) (n : ℕ) (said : List ℕ) (m : ℕ) (hm : m < 128) (claim customers : List ℕ) (k : ℕ) (g : Gathered cl m claim customers k)
-    (fill : List ℕ) (f : FillsGathered cl said m fill) (filled : ℕ) (ef : filled ≡ sum (take k fill)) (d : ℕ) (di : DueIs cl tr m d) (wide : ℕ)
+module _ (claims trades : List ℕ) (lines : ℕ) (said : List ℕ) (m : ℕ) (hm : m < mostTrades) (claim customers : List ℕ) (k : ℕ) (g : Gathered claims m claim customers k)
+    (fill : List ℕ) (f : FillsGathered claims said m fill) (filled : ℕ) (ef : filled ≡ sum (take k fill)) (d : ℕ) (di : DueIs claims trades m d) (wide : ℕ)
     (ed : wide ≡ d) where
-  module _ (j : Journal) (trades : ℕ) (b : Books j tr cl trades n) (lt : m < trades) where
-    filled-is : filled ≡ sum (fillsOf (sharesOf m (besides cl said n)))
-    filled-is = ef ∙ ap sum (shares-gathered j tr cl trades n b said m hm claim customers k g fill f .fills)
+  module _ (j : Journal) (traded : ℕ) (b : Books j trades claims traded lines) (lt : m < traded) where
+    filled-is : filled ≡ sum (fillsOf (sharesOf m (besides claims said lines)))
+    filled-is = ef ∙ ap sum (shares-gathered j trades claims traded lines b said m hm claim customers k g fill f .fills)
 
     due-is : wide ≡ due j m
-    due-is = ed ∙ di .so (j .header) (j .history) (b .snaps) trades n lt hm (b .traded) (b .lined)
+    due-is = ed ∙ di .so (j .header) (j .history) (b .snaps) traded lines lt hm (b .traded) (b .lined)
 
-    rule-is : checkLines (besides cl said n) ≡ ok tt → (kept : Bool) → fairness.RuleAnswered claim customers fill k kept
-        → kept ≡ shareRule (sharesOf m (besides cl said n))
+    rule-is : checkLines (besides claims said lines) ≡ ok tt → (kept : Bool) → fairness.RuleAnswered claim customers fill k kept
+        → kept ≡ shareRule (sharesOf m (besides claims said lines))
     rule-is e kept a =
-        a .is (sharesOf m (besides cl said n)) (shares-gathered j tr cl trades n b said m hm claim customers k g fill f) (within j tr cl trades n b said m e)
+        a .is (sharesOf m (besides claims said lines)) (shares-gathered j trades claims traded lines b said m hm claim customers k g fill f) (within j trades claims traded lines b said m e)
 
-  pub trade-due-missed : (filled ≡ wide → ⊥) → TradeChecked cl tr n said m (Refused notTheDueTotal m)
+  pub trade-due-missed : (filled ≡ wide → ⊥) → TradeChecked claims trades lines said m (Refused notTheDueTotal m)
   trade-due-missed q =
       record {
         so =
-            λ j trades b lt e.
-            let p = filled-is j trades b lt in
-            let r = due-is j trades b lt in
-            total-missed j (besides cl said n) m (λ z. q (p ∙ z ∙ sym r));
+            λ j traded b lt e.
+            let p = filled-is j traded b lt in
+            let r = due-is j traded b lt in
+            total-missed j (besides claims said lines) m (λ z. q (p ∙ z ∙ sym r));
       }
 
   module _ (q : filled ≡ wide) (kept : Bool) (a : fairness.RuleAnswered claim customers fill k kept) where
-    pub trade-rule-broken : not kept ≡ true → TradeChecked cl tr n said m (Refused shareRuleBroken m)
+    pub trade-rule-broken : not kept ≡ true → TradeChecked claims trades lines said m (Refused shareRuleBroken m)
     trade-rule-broken h =
         record {
           so =
-              λ j trades b lt e.
-              rule-missed j (besides cl said n) m (sym (filled-is j trades b lt) ∙ q ∙ due-is j trades b lt)
-              (sym (rule-is j trades b lt e kept a) ∙ not-true kept h);
+              λ j traded b lt e.
+              rule-missed j (besides claims said lines) m (sym (filled-is j traded b lt) ∙ q ∙ due-is j traded b lt)
+              (sym (rule-is j traded b lt e kept a) ∙ not-true kept h);
         }
 
-    pub trade-passed : not kept ≡ false → TradeChecked cl tr n said m Accepted
+    pub trade-passed : not kept ≡ false → TradeChecked claims trades lines said m Accepted
     trade-passed h =
         record {
           so =
-              λ j trades b lt e.
-              both-met j (besides cl said n) m (sym (filled-is j trades b lt) ∙ q ∙ due-is j trades b lt)
-              (sym (rule-is j trades b lt e kept a) ∙ not-false kept h);
+              λ j traded b lt e.
+              both-met j (besides claims said lines) m (sym (filled-is j traded b lt) ∙ q ∙ due-is j traded b lt)
+              (sym (rule-is j traded b lt e kept a) ∙ not-false kept h);
         }
 
 pub ruleset trade-laws = (trade-findable, trade-due-missed, trade-rule-broken, trade-passed)
 
 -- ---- trade by trade
 
-module _ (cl tr : List ℕ) (n : ℕ) (said : List ℕ) (trades : ℕ) where
-  pub no-trade-checked : TradesChecking cl tr n said trades 0
+module _ (claims trades : List ℕ) (lines : ℕ) (said : List ℕ) (traded : ℕ) where
+  pub no-trade-checked : TradesChecking claims trades lines said traded 0
   no-trade-checked = record { so = λ j b e. rw sub-zero; low = omega arith }
 
-  module _ (m : ℕ) (w : TradesChecking cl tr n said trades m) where
-    pub trades-checked : trades ≤ m → TradesChecked cl tr n said trades Accepted
+  module _ (m : ℕ) (w : TradesChecking claims trades lines said traded m) where
+    pub trades-checked : traded ≤ m → TradesChecked claims trades lines said traded Accepted
     unfolding checkTrades
-    trades-checked h = let d : trades - m ≡ 0 = omega arith in record { so = λ j b e. sym (w .so j b e ∙ rw d) }
+    trades-checked h = let d : traded - m ≡ 0 = omega arith in record { so = λ j b e. sym (w .so j b e ∙ rw d) }
 
-    module _ (h : m < trades) (r : Checked) (t : TradeChecked cl tr n said m r) where
-      left : trades - m ≡ suc (trades - (m + 1))
+    module _ (h : m < traded) (r : Checked) (t : TradeChecked claims trades lines said m r) where
+      left : traded - m ≡ suc (traded - (m + 1))
       left = omega arith
 
-      on : (j : Journal) → Books j tr cl trades n → checkLines (besides cl said n) ≡ ok tt → (a : Answer Passed) → checkedAs r ≡ a
-          → checkTrades j (besides cl said n) 0 trades ≡ (a >>= λ _. checkTrades j (besides cl said n) (m + 1) (trades - (m + 1)))
+      on : (j : Journal) → Books j trades claims traded lines → checkLines (besides claims said lines) ≡ ok tt → (a : Answer Passed) → checkedAs r ≡ a
+          → checkTrades j (besides claims said lines) 0 traded ≡ (a >>= λ _. checkTrades j (besides claims said lines) (m + 1) (traded - (m + 1)))
       unfolding checkTrades
-      on j b e a q = w .so j b e ∙ rw (left, sym (t .so j trades b h e) ∙ q)
+      on j b e a q = w .so j b e ∙ rw (left, sym (t .so j traded b h e) ∙ q)
 
-      pub a-trade-refused : (number place : ℕ) → r ≡ Refused number place → TradesChecked cl tr n said trades (Refused number place)
+      pub a-trade-refused : (number place : ℕ) → r ≡ Refused number place → TradesChecked claims trades lines said traded (Refused number place)
       unfolding _>>=_
       a-trade-refused number place g = record { so = λ j b e. sym (on j b e (refused number place) (ap checkedAs g)) }
 
-      pub a-trade-passed : r ≡ Accepted → TradesChecking cl tr n said trades (m + 1)
+      pub a-trade-passed : r ≡ Accepted → TradesChecking claims trades lines said traded (m + 1)
       unfolding _>>=_
       a-trade-passed g = record { so = λ j b e. on j b e (ok tt) (ap checkedAs g); low = omega arith }
 

@@ -6,34 +6,34 @@ use lib.ListN.{getD, length, take}
 use Rattle.rules.specs.Limits.{mostTradeLines}
 use Rattle.rules.specs.Due.{Line}
 use Rattle.rules.specs.SheetCheck.{Beside, checkLines}
-use Rattle.claims.specs.Lines.{lineAt, manyOf, tradeLines}
+use Rattle.claims.specs.Lines.{lineIn, manyOf, tradeLines}
 use Rattle.said.specs.Said.{each, saidLine}
 
 -- ---- the lines
 
 abbrev pub besideAt : List ℕ → List ℕ → ℕ → Beside
-besideAt cl said i = record { line = lineAt cl i; sheet = saidLine said i }
+besideAt claims said i = record { line = lineIn claims i; sheet = saidLine said i }
 
 -- the lines of the tables beside those of the sheet
 unfoldable pub besides : List ℕ → List ℕ → ℕ → List Beside
-besides cl said n = each (besideAt cl said) 0 n
+besides claims said lines = each (besideAt claims said) 0 lines
 
 -- the first i lines have passed
-pub record LinesChecking (cl said : List ℕ) (n i : ℕ) : Type 0 where
-  pub rest : checkLines (besides cl said n) ≡ checkLines (each (besideAt cl said) i (n - i))
-  pub low : i ≤ n
+pub record LinesChecking (claims said : List ℕ) (lines i : ℕ) : Type 0 where
+  pub rest : checkLines (besides claims said lines) ≡ checkLines (each (besideAt claims said) i (lines - i))
+  pub low : i ≤ lines
 
 -- ---- the fills of a trade
 
 abbrev pub fillOn : List ℕ → Line → ℕ
 fillOn said l = getD said (l .number * 3 + 1) 0
 
-pub record FillsGathered (cl said : List ℕ) (m : ℕ) (fill : List ℕ) : Type 0 where
-  pub fills : take (manyOf cl m) fill ≡ map (fillOn said) (tradeLines cl m (manyOf cl m))
+pub record FillsGathered (claims said : List ℕ) (m : ℕ) (fill : List ℕ) : Type 0 where
+  pub fills : take (manyOf claims m) fill ≡ map (fillOn said) (tradeLines claims m (manyOf claims m))
   pub long : length fill ≡ mostTradeLines
 
 -- the first i of them
-pub record FillsGathering (cl said : List ℕ) (m k i : ℕ) (fill : List ℕ) : Type 0 where
-  pub fills : take i fill ≡ map (fillOn said) (tradeLines cl m i)
+pub record FillsGathering (claims said : List ℕ) (m k i : ℕ) (fill : List ℕ) : Type 0 where
+  pub fills : take i fill ≡ map (fillOn said) (tradeLines claims m i)
   pub low : i ≤ k
   pub long : length fill ≡ mostTradeLines

@@ -33,20 +33,20 @@ pub record LineJudged (number size reason claim named filled cancelled : ℕ) (r
       → b .sheet .reason ≡ named → b .sheet .filled ≡ filled → b .sheet .cancelled ≡ cancelled → checkedAs r ≡ checkLine b
 
 -- one trade, after every line has passed
-pub record TradeChecked (cl tr : List ℕ) (n : ℕ) (said : List ℕ) (m : ℕ) (r : Checked) : Type 0 where
-  pub so : (j : Journal) (trades : ℕ) → Books j tr cl trades n → m < trades → checkLines (besides cl said n) ≡ ok tt
-      → checkedAs r ≡ checkTrade j (besides cl said n) m
+pub record TradeChecked (claims trades : List ℕ) (lines : ℕ) (said : List ℕ) (m : ℕ) (r : Checked) : Type 0 where
+  pub so : (j : Journal) (traded : ℕ) → Books j trades claims traded lines → m < traded → checkLines (besides claims said lines) ≡ ok tt
+      → checkedAs r ≡ checkTrade j (besides claims said lines) m
 
 -- all of them
-pub record TradesChecked (cl tr : List ℕ) (n : ℕ) (said : List ℕ) (trades : ℕ) (r : Checked) : Type 0 where
-  pub so : (j : Journal) → Books j tr cl trades n → checkLines (besides cl said n) ≡ ok tt
-      → checkedAs r ≡ checkTrades j (besides cl said n) 0 trades
+pub record TradesChecked (claims trades : List ℕ) (lines : ℕ) (said : List ℕ) (traded : ℕ) (r : Checked) : Type 0 where
+  pub so : (j : Journal) → Books j trades claims traded lines → checkLines (besides claims said lines) ≡ ok tt
+      → checkedAs r ≡ checkTrades j (besides claims said lines) 0 traded
 
 -- those below m have passed
-pub record TradesChecking (cl tr : List ℕ) (n : ℕ) (said : List ℕ) (trades m : ℕ) : Type 0 where
-  pub so : (j : Journal) → Books j tr cl trades n → checkLines (besides cl said n) ≡ ok tt
-      → checkTrades j (besides cl said n) 0 trades ≡ checkTrades j (besides cl said n) m (trades - m)
-  pub low : m ≤ trades
+pub record TradesChecking (claims trades : List ℕ) (lines : ℕ) (said : List ℕ) (traded m : ℕ) : Type 0 where
+  pub so : (j : Journal) → Books j trades claims traded lines → checkLines (besides claims said lines) ≡ ok tt
+      → checkTrades j (besides claims said lines) 0 traded ≡ checkTrades j (besides claims said lines) m (traded - m)
+  pub low : m ≤ traded
 
-pub record CheckedAs (cl tr : List ℕ) (trades n : ℕ) (sheet : List ℕ) (r : Checked) : Type 0 where
-  pub so : (j : Journal) → Books j tr cl trades n → checkedAs r ≡ checkOf j sheet
+pub record CheckedAs (claims trades : List ℕ) (traded lines : ℕ) (sheet : List ℕ) (r : Checked) : Type 0 where
+  pub so : (j : Journal) → Books j trades claims traded lines → checkedAs r ≡ checkOf j sheet

@@ -13,6 +13,7 @@ use rows::Refusal;
 use rows::TradeLines;
 use said::Checked;
 use said::Said;
+use trades::Trades;
 
 // 21, 22, 24, of the numbers themselves. Any two words have room for their sum in 64 bits.
 fn judge_line(
@@ -47,15 +48,15 @@ fn judge_line(
     Checked::Accepted
 }
 
-fn check_line(cl: &[u32; Line::WORDS], said: &[u32; 1536], i: usize) -> Checked
+fn check_line(claims: &[u32; Line::WORDS], said: &[u32; Said::WORDS], i: usize) -> Checked
     requires { ⌜ i < mostSatisfactionOrders ⌝ }
-    ensures { λ r. ⌜ checkedAs r ≡ checkLine (besideAt (now (cl .entry)) (now (said .entry)) i) ⌝ }
+    ensures { λ r. ⌜ checkedAs r ≡ checkLine (besideAt (now (claims .entry)) (now (said .entry)) i) ⌝ }
 {
     judge_line(
         i,
-        cl[i * 8 + Line::SIZE],
-        cl[i * 8 + Line::REASON],
-        cl[i * 8 + Line::CLAIM],
+        claims[i * 8 + Line::SIZE],
+        claims[i * 8 + Line::REASON],
+        claims[i * 8 + Line::CLAIM],
         said[i * 3 + Said::REASON],
         said[i * 3 + Said::FILLED],
         said[i * 3 + Said::CANCELLED],
@@ -63,13 +64,13 @@ fn check_line(cl: &[u32; Line::WORDS], said: &[u32; 1536], i: usize) -> Checked
 }
 
 // "line by line"
-fn check_lines(cl: &[u32; Line::WORDS], said: &[u32; 1536], n: usize) -> Checked
-    requires { ⌜ n ≤ mostSatisfactionOrders ⌝ }
-    ensures { λ r. ⌜ checkedAs r ≡ checkLines (besides (now (cl .entry)) (now (said .entry)) n) ⌝ }
+fn check_lines(claims: &[u32; Line::WORDS], said: &[u32; Said::WORDS], lines: usize) -> Checked
+    requires { ⌜ lines ≤ mostSatisfactionOrders ⌝ }
+    ensures { λ r. ⌜ checkedAs r ≡ checkLines (besides (now (claims .entry)) (now (said .entry)) lines) ⌝ }
 {
     let mut i: usize = 0;
-    while i < n {
-        if let Checked::Refused { no, place } = check_line(cl, said, i) {
+    while i < lines {
+        if let Checked::Refused { no, place } = check_line(claims, said, i) {
             return Checked::Refused { no, place };
         }
         i += 1;
@@ -79,20 +80,20 @@ fn check_lines(cl: &[u32; Line::WORDS], said: &[u32; 1536], n: usize) -> Checked
 
 // What the sheet fills on trade m's lines, in their order.
 pub fn gather_fills(
-    cl: &[u32; Line::WORDS],
-    n: usize,
-    said: &[u32; 1536],
+    claims: &[u32; Line::WORDS],
+    lines: usize,
+    said: &[u32; Said::WORDS],
     m: usize,
     fill: &mut [u32; TradeLines::MOST],
 )
-    requires { ⌜ (m < mostTrades) × Filing (now cl) n ⌝ }
+    requires { ⌜ (m < mostTrades) × Filing (now claims) lines ⌝ }
     requires { ⌜ length (now fill) ≡ mostTradeLines ⌝ }
-    ensures { λ _. ⌜ FillsGathered (now (cl .entry)) (now (said .entry)) m (now (fill .exit)) ⌝ }
+    ensures { λ _. ⌜ FillsGathered (now (claims .entry)) (now (said .entry)) m (now (fill .exit)) ⌝ }
 {
-    let k = claims::lines_of(cl, m);
+    let k = claims::lines_of(claims, m);
     let mut i: usize = 0;
     while i < k {
-        let line = claims::line_of(cl, m, i);
+        let line = claims::line_of(claims, m, i);
         fill[i] = said[line * 3 + Said::FILLED];
         i += 1;
     }
@@ -101,22 +102,22 @@ pub fn gather_fills(
 // 25, 26. The amount due is the tables' own. Fills and customer contracts are words, so that their products have room in 64 bits:
 // `fairness` takes them there.
 fn check_trade(
-    cl: &[u32; Line::WORDS],
-    tr: &[u32; 1024],
-    n: usize,
-    said: &[u32; 1536],
+    claims: &[u32; Line::WORDS],
+    trades: &[u32; Trades::WORDS],
+    lines: usize,
+    said: &[u32; Said::WORDS],
     m: usize,
 ) -> Checked
-    requires { ⌜ (m < mostTrades) × Filing (now cl) n ⌝ }
-    ensures { λ r. ⌜ TradeChecked (now (cl .entry)) (now (tr .entry)) n (now (said .entry)) m r ⌝ }
+    requires { ⌜ (m < mostTrades) × Filing (now claims) lines ⌝ }
+    ensures { λ r. ⌜ TradeChecked (now (claims .entry)) (now (trades .entry)) lines (now (said .entry)) m r ⌝ }
 {
     let mut claim = [0u32; TradeLines::MOST];
     let mut customers = [0u32; TradeLines::MOST];
     let mut fill = [0u32; TradeLines::MOST];
-    let k = claims::gather(cl, m, &mut claim, &mut customers);
-    gather_fills(cl, n, said, m, &mut fill);
+    let k = claims::gather(claims, m, &mut claim, &mut customers);
+    gather_fills(claims, lines, said, m, &mut fill);
     let filled = fairness::total(&fill, k);
-    let due = rows::wide(claims::due_total(cl, tr, m));
+    let due = rows::wide(claims::due_total(claims, trades, m));
     if filled != due {
         return Checked::Refused {
             no: Refusal::NOT_THE_DUE_TOTAL,
@@ -134,18 +135,18 @@ fn check_trade(
 
 // "trade by trade"
 fn check_trades(
-    cl: &[u32; Line::WORDS],
-    tr: &[u32; 1024],
-    n: usize,
-    said: &[u32; 1536],
-    trades: usize,
+    claims: &[u32; Line::WORDS],
+    trades: &[u32; Trades::WORDS],
+    lines: usize,
+    said: &[u32; Said::WORDS],
+    traded: usize,
 ) -> Checked
-    requires { ⌜ (trades ≤ mostTrades) × Filing (now cl) n ⌝ }
-    ensures { λ r. ⌜ TradesChecked (now (cl .entry)) (now (tr .entry)) n (now (said .entry)) trades r ⌝ }
+    requires { ⌜ (traded ≤ mostTrades) × Filing (now claims) lines ⌝ }
+    ensures { λ r. ⌜ TradesChecked (now (claims .entry)) (now (trades .entry)) lines (now (said .entry)) traded r ⌝ }
 {
     let mut m: usize = 0;
-    while m < trades {
-        if let Checked::Refused { no, place } = check_trade(cl, tr, n, said, m) {
+    while m < traded {
+        if let Checked::Refused { no, place } = check_trade(claims, trades, lines, said, m) {
             return Checked::Refused { no, place };
         }
         m += 1;
@@ -155,21 +156,21 @@ fn check_trades(
 
 // The sheet of a journal with so many trades and so many Satisfaction Orders, whose tables these are.
 pub fn check_sheet(
-    cl: &[u32; Line::WORDS],
-    tr: &[u32; 1024],
-    trades: usize,
-    n: usize,
+    claims: &[u32; Line::WORDS],
+    trades: &[u32; Trades::WORDS],
+    traded: usize,
+    lines: usize,
     sheet: &[u8],
 ) -> Checked
-    requires { ⌜ (trades ≤ mostTrades) × Filing (now cl) n ⌝ }
-    ensures { λ r. ⌜ CheckedAs (now (cl .entry)) (now (tr .entry)) trades n (now (sheet .entry)) r ⌝ }
+    requires { ⌜ (traded ≤ mostTrades) × Filing (now claims) lines ⌝ }
+    ensures { λ r. ⌜ CheckedAs (now (claims .entry)) (now (trades .entry)) traded lines (now (sheet .entry)) r ⌝ }
 {
-    let mut said = [0u32; 1536];
-    if let Checked::Refused { no, place } = said::read_sheet(sheet, n, &mut said) {
+    let mut said = [0u32; Said::WORDS];
+    if let Checked::Refused { no, place } = said::read_sheet(sheet, lines, &mut said) {
         return Checked::Refused { no, place };
     }
-    if let Checked::Refused { no, place } = check_lines(cl, &said, n) {
+    if let Checked::Refused { no, place } = check_lines(claims, &said, lines) {
         return Checked::Refused { no, place };
     }
-    check_trades(cl, tr, n, &said, trades)
+    check_trades(claims, trades, lines, &said, traded)
 }

@@ -24,7 +24,7 @@ use Rattle.rows.specs.Rows.{word}
 use Rattle.rows.specs.declared.Rec.{Rec}
 use Rattle.reasons.specs.Reasons.{inTime, againAt}
 use Rattle.reasons.proofs.Judge.{in-time-is}
-use Rattle.claims.specs.Lines.{partAt, manyAt, sumAt, againFrom, againWord, lineAt, linesFrom, numberAt, manyOf, sumOf, tradeLines, Told, Lined, Filing, Cancellable, clearedIn, cancelledIn, Placed, ClaimsStep}
+use Rattle.claims.specs.Lines.{partAt, manyAt, sumAt, againFrom, againWord, lineIn, linesFrom, numberAt, manyOf, sumOf, tradeLines, LineTells, Lined, Filing, Cancellable, clearedIn, cancelledIn, FitsClaims, ClaimsStep}
 use Rattle.claims.proofs.Words.{others-kept, first-put, second-put, third-put}
 use Rattle.claims.proofs.Lines.{lines-skip, lines-stay}
 
@@ -69,24 +69,24 @@ only-one f same k (suc n) =
 
 -- ---- the table's lines
 
-module _ (cl : List ℕ) (n k : ℕ) (low : k < n) where
-  the-line : keep (λ (l : Line). l .number == k) (linesFrom cl n) ≡ lineAt cl k ∷ []
+module _ (claims : List ℕ) (lines k : ℕ) (low : k < lines) where
+  the-line : keep (λ (l : Line). l .number == k) (linesFrom claims lines) ≡ lineIn claims k ∷ []
   unfolding linesFrom
-  the-line = only-one (lineAt cl) (λ i. refl) k n ∙ rw (lt-ltb k n low)
+  the-line = only-one (lineIn claims) (λ i. refl) k lines ∙ rw (lt-ltb k lines low)
 
-  claim-taken : (m : ℕ) → sum (claimsOf (ofTrade m (map (clearing k) (linesFrom cl n)))) + (if getD cl (k * 8 + 0) 0 == m then getD cl (k * 8 + 4) 0 else 0)
-      ≡ sum (claimsOf (ofTrade m (linesFrom cl n)))
+  claim-taken : (m : ℕ) → sum (claimsOf (ofTrade m (map (clearing k) (linesFrom claims lines)))) + (if getD claims (k * 8 + 0) 0 == m then getD claims (k * 8 + 4) 0 else 0)
+      ≡ sum (claimsOf (ofTrade m (linesFrom claims lines)))
   claim-taken m =
-      let whole = rw the-line at (sum-cleared k m (linesFrom cl n)) in
+      let whole = rw the-line at (sum-cleared k m (linesFrom claims lines)) in
       unfold ofTrade keep sum in
-      byTest (getD cl (k * 8 + 0) 0 == m) (λ t. let w = rw t at whole in rw t (omega arith)) (λ t. let w = rw t at whole in rw t (omega arith))
+      byTest (getD claims (k * 8 + 0) 0 == m) (λ t. let w = rw t at whole in rw t (omega arith)) (λ t. let w = rw t at whole in rw t (omega arith))
 
 -- a line's claim is part of its trade's sum
-pub line-cancellable : (h : Header) (past : History) (cl : List ℕ) (n k : ℕ) → Lined h past cl n → Filing cl n → k < n → Cancellable cl k
-line-cancellable h past cl n k held fi low =
-    let m : ℕ = getD cl (k * 8 + 0) 0 in
+pub line-cancellable : (h : Header) (past : History) (claims : List ℕ) (lines k : ℕ) → Lined h past claims lines → Filing claims lines → k < lines → Cancellable claims k
+line-cancellable h past claims lines k held fi low =
+    let m : ℕ = getD claims (k * 8 + 0) 0 in
     let known : m < mostTrades = fi .of-trades k low in
-    let taken = rw (eq-eqb m m refl) at (claim-taken cl n k low m) in
+    let taken = rw (eq-eqb m m refl) at (claim-taken claims lines k low m) in
     record {
       line = omega (arith, fi .few);
       trade = known;
@@ -98,18 +98,18 @@ line-cancellable h past cl n k held fi low =
 
 -- where the sum of its trade's claims stands, and what is left of it
 abbrev sumWord : List ℕ → ℕ → ℕ
-sumWord cl k = sumAt (getD cl (k * 8 + 0) 0)
+sumWord claims k = sumAt (getD claims (k * 8 + 0) 0)
 
 abbrev leftOver : List ℕ → ℕ → ℕ
-leftOver cl k = getD cl (sumWord cl k) 0 - getD cl (k * 8 + 4) 0
+leftOver claims k = getD claims (sumWord claims k) 0 - getD claims (k * 8 + 4) 0
 
-module _ (cl : List ℕ) (k : ℕ) (able : Cancellable cl k) where
-  word-kept : (j : ℕ) → (j ≡ sumWord cl k → ⊥) → (j ≡ k * 8 + 2 → ⊥) → (j ≡ k * 8 + 4 → ⊥) → getD (clearedIn cl k) j 0 ≡ getD cl j 0
+module _ (claims : List ℕ) (k : ℕ) (able : Cancellable claims k) where
+  word-kept : (j : ℕ) → (j ≡ sumWord claims k → ⊥) → (j ≡ k * 8 + 2 → ⊥) → (j ≡ k * 8 + 4 → ⊥) → getD (clearedIn claims k) j 0 ≡ getD claims j 0
   unfolding clearedIn
-  word-kept j = others-kept cl (sumWord cl k) (k * 8 + 2) (k * 8 + 4) (leftOver cl k) (named (getD cl (k * 8 + 2) 0)) 0 j
+  word-kept j = others-kept claims (sumWord claims k) (k * 8 + 2) (k * 8 + 4) (leftOver claims k) (named (getD claims (k * 8 + 2) 0)) 0 j
 
   -- a word of an order's row
-  row-kept : (i w : ℕ) → i < mostSatisfactionOrders → w < 8 → ((i ≡ k) → (w ≡ 2 → ⊥) × (w ≡ 4 → ⊥)) → getD (clearedIn cl k) (i * 8 + w) 0 ≡ getD cl (i * 8 + w) 0
+  row-kept : (i w : ℕ) → i < mostSatisfactionOrders → w < 8 → ((i ≡ k) → (w ≡ 2 → ⊥) × (w ≡ 4 → ⊥)) → getD (clearedIn claims k) (i * 8 + w) 0 ≡ getD claims (i * 8 + w) 0
   row-kept i w hi hw apart =
       word-kept (i * 8 + w)
       (λ z. omega arith)
@@ -117,34 +117,34 @@ module _ (cl : List ℕ) (k : ℕ) (able : Cancellable cl k) where
       (λ z. let same : i ≡ k = omega arith in apart same .1 (omega arith))
 
   -- one that is neither the reason nor the claim
-  fact-kept : (i w : ℕ) → i < mostSatisfactionOrders → w < 8 → (w == 2 || w == 4) ≡ false → getD (clearedIn cl k) (i * 8 + w) 0 ≡ getD cl (i * 8 + w) 0
+  fact-kept : (i w : ℕ) → i < mostSatisfactionOrders → w < 8 → (w == 2 || w == 4) ≡ false → getD (clearedIn claims k) (i * 8 + w) 0 ≡ getD claims (i * 8 + w) 0
   fact-kept i w hi hw other =
       row-kept i w hi hw (λ z. (eqb-false w 2 (or-left (w == 2) (w == 4) other), eqb-false w 4 (or-right (w == 2) (w == 4) other)))
 
-  other-row-kept : (i w : ℕ) → i < mostSatisfactionOrders → w < 8 → (i ≡ k → ⊥) → getD (clearedIn cl k) (i * 8 + w) 0 ≡ getD cl (i * 8 + w) 0
+  other-row-kept : (i w : ℕ) → i < mostSatisfactionOrders → w < 8 → (i ≡ k → ⊥) → getD (clearedIn claims k) (i * 8 + w) 0 ≡ getD claims (i * 8 + w) 0
   other-row-kept i w hi hw ne = row-kept i w hi hw (λ z. absurd (ne z))
 
-  reason-word : getD (clearedIn cl k) (k * 8 + 2) 0 ≡ named (getD cl (k * 8 + 2) 0)
+  reason-word : getD (clearedIn claims k) (k * 8 + 2) 0 ≡ named (getD claims (k * 8 + 2) 0)
   unfolding clearedIn
   reason-word =
-      second-put cl (sumWord cl k) (k * 8 + 2) (k * 8 + 4) (leftOver cl k) (named (getD cl (k * 8 + 2) 0)) 0
+      second-put claims (sumWord claims k) (k * 8 + 2) (k * 8 + 4) (leftOver claims k) (named (getD claims (k * 8 + 2) 0)) 0
       (omega (arith, able .line, able .long))
       (λ z. omega arith)
 
-  claim-word : getD (clearedIn cl k) (k * 8 + 4) 0 ≡ 0
+  claim-word : getD (clearedIn claims k) (k * 8 + 4) 0 ≡ 0
   unfolding clearedIn
   claim-word =
-      third-put cl (sumWord cl k) (k * 8 + 2) (k * 8 + 4) (leftOver cl k) (named (getD cl (k * 8 + 2) 0)) 0 (omega (arith, able .line, able .long))
+      third-put claims (sumWord claims k) (k * 8 + 2) (k * 8 + 4) (leftOver claims k) (named (getD claims (k * 8 + 2) 0)) 0 (omega (arith, able .line, able .long))
 
-  sum-word : getD (clearedIn cl k) (sumWord cl k) 0 ≡ leftOver cl k
+  sum-word : getD (clearedIn claims k) (sumWord claims k) 0 ≡ leftOver claims k
   unfolding clearedIn
   sum-word =
-      first-put cl (sumWord cl k) (k * 8 + 2) (k * 8 + 4) (leftOver cl k) (named (getD cl (k * 8 + 2) 0)) 0
+      first-put claims (sumWord claims k) (k * 8 + 2) (k * 8 + 4) (leftOver claims k) (named (getD claims (k * 8 + 2) 0)) 0
       (omega (arith, able .trade, able .long))
       (λ z. omega (arith, able .line))
       (λ z. omega (arith, able .line))
 
-  line-cleared : (i : ℕ) → i < mostSatisfactionOrders → lineAt (clearedIn cl k) i ≡ clearing k (lineAt cl i)
+  line-cleared : (i : ℕ) → i < mostSatisfactionOrders → lineIn (clearedIn claims k) i ≡ clearing k (lineIn claims i)
   line-cleared i hi =
       byTest (i == k)
       (λ q. let same : i ≡ k = eqb-true i k q in
@@ -167,7 +167,7 @@ module _ (cl : List ℕ) (k : ℕ) (able : Cancellable cl k) where
         other-row-kept i 4 hi (omega arith) ne,
       ))
 
-  told-cleared : (i : ℕ) → i < mostSatisfactionOrders → {order : Happened} → Told cl i order → Told (clearedIn cl k) i order
+  told-cleared : (i : ℕ) → i < mostSatisfactionOrders → {order : Happened} → LineTells claims i order → LineTells (clearedIn claims k) i order
   told-cleared i hi t =
       record {
         is-order = t .is-order;
@@ -177,36 +177,36 @@ module _ (cl : List ℕ) (k : ℕ) (able : Cancellable cl k) where
         time = fact-kept i 7 hi (omega arith) refl ∙ t .time;
       }
 
-  many-kept : (m : ℕ) → manyOf (clearedIn cl k) m ≡ manyOf cl m
+  many-kept : (m : ℕ) → manyOf (clearedIn claims k) m ≡ manyOf claims m
   unfolding manyOf
   many-kept m = word-kept (manyAt m) (λ z. omega arith) (λ z. omega (arith, able .line)) (λ z. omega (arith, able .line))
 
-  number-kept : (m i : ℕ) → m < mostTrades → i < mostTradeLines → numberAt (clearedIn cl k) m i ≡ numberAt cl m i
+  number-kept : (m i : ℕ) → m < mostTrades → i < mostTradeLines → numberAt (clearedIn claims k) m i ≡ numberAt claims m i
   unfolding numberAt
   number-kept m i hm hi = word-kept (partAt m + i) (λ z. omega arith) (λ z. omega (arith, able .line)) (λ z. omega (arith, able .line))
 
-  sum-cleared-of : (m : ℕ) → sumOf (clearedIn cl k) m ≡ sumOf cl m - (if getD cl (k * 8 + 0) 0 == m then getD cl (k * 8 + 4) 0 else 0)
+  sum-cleared-of : (m : ℕ) → sumOf (clearedIn claims k) m ≡ sumOf claims m - (if getD claims (k * 8 + 0) 0 == m then getD claims (k * 8 + 4) 0 else 0)
   unfolding sumOf
   sum-cleared-of m =
-      byTest (getD cl (k * 8 + 0) 0 == m)
-      (λ t. rw (t, ← eqb-true (getD cl (k * 8 + 0) 0) m t) sum-word)
+      byTest (getD claims (k * 8 + 0) 0 == m)
+      (λ t. rw (t, ← eqb-true (getD claims (k * 8 + 0) 0) m t) sum-word)
       (λ t. rw t
-      (word-kept (sumAt m) (λ z. eqb-false (getD cl (k * 8 + 0) 0) m t (omega arith)) (λ z. omega (arith, able .line)) (λ z. omega (arith, able .line))
+      (word-kept (sumAt m) (λ z. eqb-false (getD claims (k * 8 + 0) 0) m t (omega arith)) (λ z. omega (arith, able .line)) (λ z. omega (arith, able .line))
       ∙ omega arith))
 
-  again-kept : (j : ℕ) → againFrom ≤ j → getD (clearedIn cl k) j 0 ≡ getD cl j 0
+  again-kept : (j : ℕ) → againFrom ≤ j → getD (clearedIn claims k) j 0 ≡ getD claims j 0
   again-kept j hj = word-kept j (λ z. omega (arith, able .trade)) (λ z. omega (arith, able .line)) (λ z. omega (arith, able .line))
 
-  length-cleared : length (clearedIn cl k) ≡ length cl
+  length-cleared : length (clearedIn claims k) ≡ length claims
   unfolding clearedIn
   length-cleared = simp length-set
 
-  filing-cleared : (n : ℕ) → Filing cl n → Filing (clearedIn cl k) n
-  filing-cleared n fi =
+  filing-cleared : (lines : ℕ) → Filing claims lines → Filing (clearedIn claims k) lines
+  filing-cleared lines fi =
       record {
         few-lines = λ m hm. rw (many-kept m) (fi .few-lines m hm);
         earlier =
-            λ m i hm hi. let old : i < manyOf cl m = rw (← many-kept m) hi in
+            λ m i hm hi. let old : i < manyOf claims m = rw (← many-kept m) hi in
             rw (number-kept m i hm (omega (arith, fi .few-lines m hm))) (fi .earlier m i hm old);
         of-trades = λ i hi. rw (fact-kept i 0 (omega (arith, fi .few)) (omega arith) refl) (fi .of-trades i hi);
         from-one = λ i hi. rw (fact-kept i 5 (omega (arith, fi .few)) (omega arith) refl) (fi .from-one i hi);
@@ -216,25 +216,25 @@ module _ (cl : List ℕ) (k : ℕ) (able : Cancellable cl k) where
         long = length-cleared ∙ fi .long;
       }
 
-  lines-cleared : (n : ℕ) → n ≤ mostSatisfactionOrders → linesFrom (clearedIn cl k) n ≡ map (clearing k) (linesFrom cl n)
+  lines-cleared : (lines : ℕ) → lines ≤ mostSatisfactionOrders → linesFrom (clearedIn claims k) lines ≡ map (clearing k) (linesFrom claims lines)
   unfolding linesFrom
-  lines-cleared n few =
-      same-below (lineAt (clearedIn cl k)) (λ i. clearing k (lineAt cl i)) n (λ i hi. line-cleared i (omega arith))
-      ∙ sym (map-map (clearing k) (lineAt cl) (below n))
+  lines-cleared lines few =
+      same-below (lineIn (clearedIn claims k)) (λ i. clearing k (lineIn claims i)) lines (λ i hi. line-cleared i (omega arith))
+      ∙ sym (map-map (clearing k) (lineIn claims) (below lines))
 
-  trade-lines-cleared : (n m : ℕ) → m < mostTrades → Filing cl n → tradeLines (clearedIn cl k) m (manyOf (clearedIn cl k) m) ≡ map (clearing k) (tradeLines cl m (manyOf cl m))
+  trade-lines-cleared : (lines m : ℕ) → m < mostTrades → Filing claims lines → tradeLines (clearedIn claims k) m (manyOf (clearedIn claims k) m) ≡ map (clearing k) (tradeLines claims m (manyOf claims m))
   unfolding tradeLines
-  trade-lines-cleared n m hm fi =
+  trade-lines-cleared lines m hm fi =
       rw (many-kept m)
-      (same-below (λ i. lineAt (clearedIn cl k) (numberAt (clearedIn cl k) m i)) (λ i. clearing k (lineAt cl (numberAt cl m i))) (manyOf cl m)
-      (λ i hi. ap (lineAt (clearedIn cl k)) (number-kept m i hm (omega (arith, fi .few-lines m hm)))
-      ∙ line-cleared (numberAt cl m i) (omega (arith, fi .earlier m i hm hi, fi .few)))
-      ∙ sym (map-map (clearing k) (λ i. lineAt cl (numberAt cl m i)) (below (manyOf cl m))))
+      (same-below (λ i. lineIn (clearedIn claims k) (numberAt (clearedIn claims k) m i)) (λ i. clearing k (lineIn claims (numberAt claims m i))) (manyOf claims m)
+      (λ i hi. ap (lineIn (clearedIn claims k)) (number-kept m i hm (omega (arith, fi .few-lines m hm)))
+      ∙ line-cleared (numberAt claims m i) (omega (arith, fi .earlier m i hm hi, fi .few)))
+      ∙ sym (map-map (clearing k) (λ i. lineIn claims (numberAt claims m i)) (below (manyOf claims m))))
 
 -- ---- beside the history
 
-module _ (h : Header) (past : History) (cl : List ℕ) (n : ℕ) (held : Lined h past cl n) (e : Event) (k : ℕ) (named-kind : e .kind ≡ namingKind)
-    (order-is : field e 0 ≡ k) (low : k < n) (close : ℕ) (closes : h .close ≡ close) where
+module _ (h : Header) (past : History) (claims : List ℕ) (lines : ℕ) (held : Lined h past claims lines) (e : Event) (k : ℕ) (named-kind : e .kind ≡ namingKind)
+    (order-is : field e 0 ≡ k) (low : k < lines) (close : ℕ) (closes : h .close ≡ close) where
   no-satisfaction : e .kind ≡ satisfactionKind → ⊥
   no-satisfaction q = omega arith
 
@@ -242,106 +242,106 @@ module _ (h : Header) (past : History) (cl : List ℕ) (n : ℕ) (held : Lined h
   no-cancellation q = omega arith
 
   -- the order named was received at the time that its row keeps
-  time-test : (e .time atMost (satisfactionAt k past .time + minutesFrom h (satisfactionAt k past .time))) ≡ inTime (getD cl (k * 8 + 7) 0) close (e .time)
+  time-test : (e .time atMost (satisfactionAt k past .time + minutesFrom h (satisfactionAt k past .time))) ≡ inTime (getD claims (k * 8 + 7) 0) close (e .time)
   unfolding satisfactionAt
   time-test = rw (held .told k low .time) (sym (in-time-is h close closes _ _))
 
-  line-after : (i : ℕ) → afterNaming h e past (lineAt cl i)
-      ≡ (if inTime (getD cl (k * 8 + 7) 0) close (e .time) then clearing k (lineAt cl i) else lineAt cl i)
+  line-after : (i : ℕ) → afterNaming h e past (lineIn claims i)
+      ≡ (if inTime (getD claims (k * 8 + 7) 0) close (e .time) then clearing k (lineIn claims i) else lineIn claims i)
   unfolding namesInTime names
   line-after i =
       byTest (i == k)
       (λ q. let same : i ≡ k = eqb-true i k q in
       rw (q, same, order-is, eq-eqb (e .kind) namingKind named-kind, eq-eqb k k refl, time-test)
-      (byTest (inTime (getD cl (k * 8 + 7) 0) close (e .time)) (λ t. rw t) (λ t. rw t)))
+      (byTest (inTime (getD claims (k * 8 + 7) 0) close (e .time)) (λ t. rw t) (λ t. rw t)))
       (λ q. let ne : i ≡ k → ⊥ = eqb-false i k q in
       rw (q, order-is, ne-eqb k i (λ z. ne (sym z)), eq-eqb (e .kind) namingKind named-kind)
-      (byTest (inTime (getD cl (k * 8 + 7) 0) close (e .time)) (λ t. rw t) (λ t. rw t)))
+      (byTest (inTime (getD claims (k * 8 + 7) 0) close (e .time)) (λ t. rw t) (λ t. rw t)))
 
-  all-after : linesOf h (e ∷ past) (e ∷ past) ≡ map (λ i. afterNaming h e past (lineAt cl i)) (below n)
+  all-after : linesOf h (e ∷ past) (e ∷ past) ≡ map (λ i. afterNaming h e past (lineIn claims i)) (below lines)
   unfolding linesFrom
   all-after =
       lines-skip h e past no-satisfaction ∙ lines-after h e past past
-      ∙ ap (map (afterNaming h e past)) (sym (held .lines)) ∙ map-map (afterNaming h e past) (lineAt cl) (below n)
+      ∙ ap (map (afterNaming h e past)) (sym (held .lines)) ∙ map-map (afterNaming h e past) (lineIn claims) (below lines)
 
-  module _ (t : inTime (getD cl (k * 8 + 7) 0) close (e .time) ≡ true) (able : Cancellable cl k) (fi : Filing cl n) where
+  module _ (t : inTime (getD claims (k * 8 + 7) 0) close (e .time) ≡ true) (able : Cancellable claims k) (fi : Filing claims lines) where
     lines-in-time : linesOf h (e ∷ past) (e ∷ past) ≡ map (clearing k) (linesOf h past past)
     unfolding linesFrom
     lines-in-time =
-        all-after ∙ same-below (λ i. afterNaming h e past (lineAt cl i)) (λ i. clearing k (lineAt cl i)) n (λ i hi. line-after i ∙ rw t)
-        ∙ sym (map-map (clearing k) (lineAt cl) (below n)) ∙ ap (map (clearing k)) (held .lines)
+        all-after ∙ same-below (λ i. afterNaming h e past (lineIn claims i)) (λ i. clearing k (lineIn claims i)) lines (λ i hi. line-after i ∙ rw t)
+        ∙ sym (map-map (clearing k) (lineIn claims) (below lines)) ∙ ap (map (clearing k)) (held .lines)
 
-    pub lined-in-time : Lined h (e ∷ past) (clearedIn cl k) n
+    pub lined-in-time : Lined h (e ∷ past) (clearedIn claims k) lines
     lined-in-time =
         record {
           numbered = held .numbered ∙ sym (count-skip isSatisfaction e past (ne-eqb (e .kind) satisfactionKind no-satisfaction));
-          lines = lines-cleared cl k able n (fi .few) ∙ ap (map (clearing k)) (held .lines) ∙ sym lines-in-time;
+          lines = lines-cleared claims k able lines (fi .few) ∙ ap (map (clearing k)) (held .lines) ∙ sym lines-in-time;
           by-trade =
-              λ m hm. trade-lines-cleared cl k able n m hm fi ∙ ap (map (clearing k)) (held .by-trade m hm)
+              λ m hm. trade-lines-cleared claims k able lines m hm fi ∙ ap (map (clearing k)) (held .by-trade m hm)
               ∙ sym (of-trade-cleared k m (linesOf h past past)) ∙ ap (ofTrade m) (sym lines-in-time);
           sums =
-              λ m hm. let taken = rw (held .lines) at (claim-taken cl n k low m) in
-              rw lines-in-time (omega (arith, sum-cleared-of cl k able m, held .sums m hm));
+              λ m hm. let taken = rw (held .lines) at (claim-taken claims lines k low m) in
+              rw lines-in-time (omega (arith, sum-cleared-of claims k able m, held .sums m hm));
           told =
               λ i hi. rw (nth-skip isSatisfaction i e past (rw (ne-eqb (e .kind) satisfactionKind no-satisfaction)))
-              (told-cleared cl k able i (omega (arith, fi .few)) (held .told i hi));
+              (told-cleared claims k able i (omega (arith, fi .few)) (held .told i hi));
           again =
-              λ m y hm hy. again-kept cl k able (againWord m y) (omega arith) ∙ held .again m y hm hy
+              λ m y hm hy. again-kept claims k able (againWord m y) (omega arith) ∙ held .again m y hm hy
               ∙ ap againAt (sym (none-taken-back m (y + 1) e past (ne-eqb (e .kind) cancellationKind no-cancellation)));
         }
 
-  pub lined-late : inTime (getD cl (k * 8 + 7) 0) close (e .time) ≡ false → Lined h (e ∷ past) cl n
+  pub lined-late : inTime (getD claims (k * 8 + 7) 0) close (e .time) ≡ false → Lined h (e ∷ past) claims lines
   unfolding linesFrom
   lined-late t =
-      lines-stay h past cl n e no-satisfaction no-cancellation
-      (all-after ∙ same-below (λ i. afterNaming h e past (lineAt cl i)) (lineAt cl) n (λ i hi. line-after i ∙ rw t) ∙ held .lines)
+      lines-stay h past claims lines e no-satisfaction no-cancellation
+      (all-after ∙ same-below (λ i. afterNaming h e past (lineIn claims i)) (lineIn claims) lines (λ i hi. line-after i ∙ rw t) ∙ held .lines)
       held
 
 -- ---- the code's steps
 
-module _ (cl : List ℕ) (k : ℕ) (able : Cancellable cl k) where
-  module _ (m : ℕ) (em : (m ≡ getD cl (k * 8 + 0) 0) × (m < 4294967296)) where
-    pub claim-in-its-sum : getD cl (k * 8 + 4) 0 ≤ getD cl (sumAt m) 0
+module _ (claims : List ℕ) (k : ℕ) (able : Cancellable claims k) where
+  module _ (m : ℕ) (em : (m ≡ getD claims (k * 8 + 0) 0) × (m < 4294967296)) where
+    pub claim-in-its-sum : getD claims (k * 8 + 4) 0 ≤ getD claims (sumAt m) 0
     unfolding sumOf
     claim-in-its-sum = rw (em .0) (able .claimed)
 
-    pub cleared-so : (close now : ℕ) (b : Bool) → b ≡ inTime (getD cl (k * 8 + 7) 0) close now → not b ≡ false → (why : ℕ) → why ≡ named (getD cl (k * 8 + 2) 0)
-        → set (set (set cl (sumAt m) (getD cl (sumAt m) 0 - getD cl (k * 8 + 4) 0)) (k * 8 + 2) why) (k * 8 + 4) 0 ≡ cancelledIn cl k close now
+    pub cleared-so : (close now : ℕ) (b : Bool) → b ≡ inTime (getD claims (k * 8 + 7) 0) close now → not b ≡ false → (why : ℕ) → why ≡ named (getD claims (k * 8 + 2) 0)
+        → set (set (set claims (sumAt m) (getD claims (sumAt m) 0 - getD claims (k * 8 + 4) 0)) (k * 8 + 2) why) (k * 8 + 4) 0 ≡ cancelledIn claims k close now
     unfolding clearedIn cancelledIn
     cleared-so close now b eb t why ew = rw (em .0, ew, ← eb, not-false b t)
 
-  pub late-so : (close now : ℕ) (b : Bool) → b ≡ inTime (getD cl (k * 8 + 7) 0) close now → not b ≡ true → cl ≡ cancelledIn cl k close now
+  pub late-so : (close now : ℕ) (b : Bool) → b ≡ inTime (getD claims (k * 8 + 7) 0) close now → not b ≡ true → claims ≡ cancelledIn claims k close now
   unfolding cancelledIn
   late-so close now b eb t = rw (← eb, not-true b t)
 
-module _ (r : Rec) (cl : List ℕ) (trades exchanges n : ℕ) (pl : Placed r cl trades exchanges n) (kind : r .kind ≡ namingKind)
+module _ (r : Rec) (claims : List ℕ) (traded exchanges lines : ℕ) (pl : FitsClaims r claims traded exchanges lines) (kind : r .kind ≡ namingKind)
     (k : ℕ) (ek : (k ≡ word r 0) × (k < 4294967296)) where
-  pub order-cancellable : Cancellable cl k
+  pub order-cancellable : Cancellable claims k
   order-cancellable = rw (ek .0) (pl .cancellable kind)
 
-  pub order-cancelled : Filing cl n → (home close : ℕ) (tr sn cl2 : List ℕ) → cl2 ≡ cancelledIn cl k close (r .time)
-      → ClaimsStep r home exchanges close tr sn trades cl n cl2 n
+  pub order-cancelled : Filing claims lines → (home close : ℕ) (trades shown claims2 : List ℕ) → claims2 ≡ cancelledIn claims k close (r .time)
+      → ClaimsStep r home exchanges close trades shown traded claims lines claims2 lines
   unfolding cancelledIn
-  order-cancelled fi home close tr sn cl2 ec =
-      let low : k < n = omega (arith, ek .0, pl .order kind) in
-      byTest (inTime (getD cl (k * 8 + 7) 0) close (r .time))
+  order-cancelled fi home close trades shown claims2 ec =
+      let low : k < lines = omega (arith, ek .0, pl .order kind) in
+      byTest (inTime (getD claims (k * 8 + 7) 0) close (r .time))
       (λ t.
-      let now : cl2 ≡ clearedIn cl k = ec ∙ rw t in
+      let now : claims2 ≡ clearedIn claims k = ec ∙ rw t in
       rw now
       (record {
-        filing = filing-cleared cl k order-cancellable n fi;
+        filing = filing-cleared claims k order-cancellable lines fi;
         so =
             λ h sizes e past arrived is closes rd tv held.
-            lined-in-time h past cl n held e k (rd .kind ∙ kind) (sym (rd .fields 0) ∙ sym (ek .0)) low close closes (rw (rd .time) t) order-cancellable fi;
+            lined-in-time h past claims lines held e k (rd .kind ∙ kind) (sym (rd .fields 0) ∙ sym (ek .0)) low close closes (rw (rd .time) t) order-cancellable fi;
       }))
       (λ t.
-      let now : cl2 ≡ cl = ec ∙ rw t in
+      let now : claims2 ≡ claims = ec ∙ rw t in
       rw now
       (record {
         filing = fi;
         so =
             λ h sizes e past arrived is closes rd tv held.
-            lined-late h past cl n held e k (rd .kind ∙ kind) (sym (rd .fields 0) ∙ sym (ek .0)) low close closes (rw (rd .time) t);
+            lined-late h past claims lines held e k (rd .kind ∙ kind) (sym (rd .fields 0) ∙ sym (ek .0)) low close closes (rw (rd .time) t);
       }))
 
 pub ruleset cancel-laws = (claim-in-its-sum, cleared-so, late-so, order-cancellable, order-cancelled)

@@ -6,6 +6,7 @@ use Prim.Native.Nat.{ℕ, _+_, _*_, _<_, min}
 use native.Mathlib.Omega.{arith}
 use lib.ListN.{getD, replicate, length-replicate}
 use Rattle.rules.specs.Basics.{below, keep, sum, bit}
+use Rattle.rules.specs.Limits.{mostTrades}
 use Rattle.rules.specs.Header.{Header}
 use Rattle.rules.specs.Record.{trade}
 use Rattle.rules.specs.Journal.{History, count, tradeAt, beforeTrade, takenBack}
@@ -23,34 +24,34 @@ bit-not-one : (b : Bool) → (bit b ≡ 1 → ⊥) → b ≡ false
 bit-not-one true p = let z : ⊥ = p refl in elim z [ ]
 bit-not-one false p = refl
 
-module _ (cl tr : List ℕ) (m : ℕ) where
-  module _ (h : Header) (past : History) (sn : List ℕ) (trades n : ℕ) (hm : m < trades) (few : m < 128) (tv : Traded h past tr sn trades)
-      (held : Lined h past cl n) where
-    cap-word : getD tr (m * 8 + 6) 0 ≡ bit (capped h (beforeTrade m past) (trade (tradeAt m past)))
+module _ (claims trades : List ℕ) (m : ℕ) where
+  module _ (h : Header) (past : History) (shown : List ℕ) (traded many-lines : ℕ) (hm : m < traded) (few : m < mostTrades) (tv : Traded h past trades shown traded)
+      (held : Lined h past claims many-lines) where
+    cap-word : getD trades (m * 8 + 6) 0 ≡ bit (capped h (beforeTrade m past) (trade (tradeAt m past)))
     unfolding tradeRow
     cap-word = tv .rows m 6 hm (omega arith)
 
-    size-word : getD tr (m * 8 + 1) 0 ≡ (trade (tradeAt m past)) .size
+    size-word : getD trades (m * 8 + 1) 0 ≡ (trade (tradeAt m past)) .size
     unfolding tradeRow
     size-word = tv .rows m 1 hm (omega arith)
 
-    sum-word : getD cl (sumAt m) 0 ≡ sum (claimsOf (ofTrade m (linesOf h past past)))
+    sum-word : getD claims (sumAt m) 0 ≡ sum (claimsOf (ofTrade m (linesOf h past past)))
     unfolding sumOf
     sum-word = held .sums m few
 
-    due-capped : getD tr (m * 8 + 6) 0 ≡ 1 → min (getD tr (m * 8 + 1) 0) (getD cl (sumAt m) 0) ≡ due (record { header = h; history = past }) m
+    due-capped : getD trades (m * 8 + 6) 0 ≡ 1 → min (getD trades (m * 8 + 1) 0) (getD claims (sumAt m) 0) ≡ due (record { header = h; history = past }) m
     unfolding due dueOf lines
     due-capped p = rw (bit-one (capped h (beforeTrade m past) (trade (tradeAt m past))) (sym cap-word ∙ p), size-word, sum-word)
 
-    due-whole : (getD tr (m * 8 + 6) 0 ≡ 1 → ⊥) → getD cl (sumAt m) 0 ≡ due (record { header = h; history = past }) m
+    due-whole : (getD trades (m * 8 + 6) 0 ≡ 1 → ⊥) → getD claims (sumAt m) 0 ≡ due (record { header = h; history = past }) m
     unfolding due dueOf lines
     due-whole p = rw (bit-not-one (capped h (beforeTrade m past) (trade (tradeAt m past))) (λ q. p (cap-word ∙ q)), sum-word)
 
-  pub capped-due : getD tr (m * 8 + 6) 0 ≡ 1 → (r : ℕ) → r ≡ min (getD tr (m * 8 + 1) 0) (getD cl (sumAt m) 0) → DueIs cl tr m r
-  capped-due p r e = record { so = λ h past sn trades n hm few tv held. e ∙ due-capped h past sn trades n hm few tv held p }
+  pub capped-due : getD trades (m * 8 + 6) 0 ≡ 1 → (r : ℕ) → r ≡ min (getD trades (m * 8 + 1) 0) (getD claims (sumAt m) 0) → DueIs claims trades m r
+  capped-due p r e = record { so = λ h past shown traded many-lines hm few tv held. e ∙ due-capped h past shown traded many-lines hm few tv held p }
 
-  pub whole-due : (getD tr (m * 8 + 6) 0 ≡ 1 → ⊥) → DueIs cl tr m (getD cl (sumAt m) 0)
-  whole-due p = record { so = λ h past sn trades n hm few tv held. due-whole h past sn trades n hm few tv held p }
+  pub whole-due : (getD trades (m * 8 + 6) 0 ≡ 1 → ⊥) → DueIs claims trades m (getD claims (sumAt m) 0)
+  whole-due p = record { so = λ h past shown traded many-lines hm few tv held. due-whole h past shown traded many-lines hm few tv held p }
 
 pub ruleset due-laws = (capped-due, whole-due)
 

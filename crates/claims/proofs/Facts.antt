@@ -6,6 +6,7 @@ use Prim.Native.Nat.{ℕ, _+_, _-_, _*_, _<_, _≤_}
 use native.Mathlib.Omega.{arith}
 use lib.ListN.{getD, length}
 use Rattle.rules.specs.Basics.{any}
+use Rattle.rules.specs.Limits.{mostExchanges}
 use Rattle.rules.specs.Header.{Header}
 use Rattle.rules.specs.Record.{Event, satisfaction}
 use Rattle.rules.specs.Journal.{History, tradeAt, beforeTrade, takenBack}
@@ -25,7 +26,7 @@ status-word e before y = refl
 abbrev caseAt : History → History → ℕ → Event → ℕ → Case
 caseAt day past n e m = record { number = n; claim = e; past = past; trade = tradeAt m past; before = beforeTrade m past; day = day }
 
-module _ (h : Header) (day past : History) (n : ℕ) (tr sn : List ℕ) (trades m y home : ℕ) (held : Traded h past tr sn trades) (hm : m < trades)
+module _ (h : Header) (day past : History) (n : ℕ) (trades shown : List ℕ) (traded m y home : ℕ) (held : Traded h past trades shown traded) (hm : m < traded)
     (hy : y < h .exchanges) (eh : h .home ≡ home) (low : 1 ≤ home) (high : home ≤ h .exchanges)
     (e : Event) (et : (satisfaction e) .trade ≡ m) (es : (satisfaction e) .sender ≡ y + 1) where
   case-is : caseOf day past n e ≡ caseAt day past n e m
@@ -41,10 +42,10 @@ module _ (h : Header) (day past : History) (n : ℕ) (tr sn : List ℕ) (trades 
   few-again few = rw (et, es) few
 
   pub facts-are : (close asked now again : ℕ) → h .close ≡ close → (satisfaction e) .price ≡ asked → e .time ≡ now → again ≡ againAt (takenBack m (y + 1) past)
-      → factsOf tr sn m y home close asked now again ≡ factsIn h (caseAt day past n e m) y
+      → factsOf trades shown m y home close asked now again ≡ factsIn h (caseAt day past n e m) y
   unfolding factsOf
   facts-are close asked now again ec ea en eg =
-      let home-status : getD sn ((m * 8 + (home - 1)) * 8 + 3) 0 ≡ statusOf (h .home) (beforeTrade m past) =
+      let home-status : getD shown ((m * mostExchanges + (home - 1)) * 8 + 3) 0 ≡ statusOf (h .home) (beforeTrade m past) =
       held .snaps m (home - 1) 3 hm (omega arith) (omega arith) ∙ status-word (tradeAt m past) (beforeTrade m past) (home - 1)
       ∙ ap (λ (x : ℕ). statusOf x (beforeTrade m past)) (omega arith) in
       rw (
@@ -68,14 +69,14 @@ module _ (h : Header) (day past : History) (n : ℕ) (tr sn : List ℕ) (trades 
 
   pub reason-is : any (namesInTime h n e) day ≡ false → length (takenBack m (y + 1) past) ≤ 1
       → (close asked now again : ℕ) → h .close ≡ close → (satisfaction e) .price ≡ asked → e .time ≡ now → again ≡ againAt (takenBack m (y + 1) past)
-      → reasonOf (factsOf tr sn m y home close asked now again) ≡ reason h (caseOf day past n e)
+      → reasonOf (factsOf trades shown m y home close asked now again) ≡ reason h (caseOf day past n e)
   reason-is stands few close asked now again ec ea en eg =
       rw (facts-are close asked now again ec ea en eg, case-is) (sym (reason-words h (caseAt day past n e m) y es (few-again few) stands))
 
-  pub customers-are : getD sn ((m * 8 + y) * 8 + 2) 0 ≡ customers (caseOf day past n e)
+  pub customers-are : getD shown ((m * mostExchanges + y) * 8 + 2) 0 ≡ customers (caseOf day past n e)
   customers-are = rw (held .snaps m y 2 hm hy (omega arith), case-is) (sym (customers-words h (caseAt day past n e m) y es))
 
   pub claim-is : (why contracts size : ℕ) → why ≡ reason h (caseOf day past n e) → contracts ≡ customers (caseOf day past n e) → (satisfaction e) .size ≡ size
-      → claimOf why size contracts (getD tr (m * 8 + 1) 0) (getD tr (m * 8 + 7) 0) ≡ claim h (caseOf day past n e)
+      → claimOf why size contracts (getD trades (m * 8 + 1) 0) (getD trades (m * 8 + 7) 0) ≡ claim h (caseOf day past n e)
   claim-is why contracts size ew eu ez =
       rw (ew, eu, ← customers-are, held .snaps m y 2 hm hy (omega arith), held .rows m 1 hm (omega arith), held .rows m 7 hm (omega arith), case-is) (sym (claim-words h _ y es size ez))

@@ -8,7 +8,7 @@ use lib.Dec.{eqb}
 use lib.ListN.{getD, length, set, length-set}
 use borrow.Author.Tests.{eq-eqb, ne-eqb, eqb-true, eqb-false}
 use Rattle.rules.specs.Basics.{if_then_else_, _==_, any, keep, sum}
-use Rattle.rules.specs.Limits.{mostExchanges, mostSatisfactionOrders, mostTradeLines}
+use Rattle.rules.specs.Limits.{mostExchanges, mostTrades, mostSatisfactionOrders, mostTradeLines, mostContracts}
 use Rattle.rules.specs.Header.{Header}
 use Rattle.rules.specs.Record.{Event, field, satisfaction, isSatisfaction, satisfactionKind, namingKind, cancellationKind}
 use Rattle.rules.specs.Journal.{History, Happened, count, nth, names, takenBack}
@@ -25,33 +25,33 @@ use Rattle.rows.specs.Rows.{Reads, word, Put, RecOk}
 use Rattle.rows.specs.declared.Rec.{Rec}
 use Rattle.rows.proofs.Rows.{behind-row-kept}
 use Rattle.orders.specs.Orders.{Headed, Heads}
-use Rattle.trades.specs.Trades.{Traded}
+use Rattle.trades.specs.Trades.{tradeWords, Traded}
 use Rattle.reasons.specs.declared.Facts.{Facts}
 use Rattle.reasons.specs.Reasons.{againAt, reasonOf, claimOf}
 use Rattle.claims.specs.Facts.{factsOf}
-use Rattle.claims.specs.Lines.{partWords, partAt, manyAt, sumAt, againFrom, againWord, lineWords, lineAt, linesFrom, numberAt, manyOf, sumOf, tradeLines, Told, Lined, Filing, Fileable, Filed, Cancellable, Placed, ClaimsStep}
+use Rattle.claims.specs.Lines.{partWords, partAt, manyAt, sumAt, againFrom, againWord, lineWords, lineIn, linesFrom, numberAt, manyOf, sumOf, tradeLines, LineTells, Lined, Filing, Fileable, Filed, Cancellable, FitsClaims, ClaimsStep}
 use Rattle.claims.proofs.Words.{others-kept, first-put, second-put, third-put}
 use Rattle.claims.proofs.Facts.{reason-is, customers-are, claim-is}
 
 -- ---- one line more at the end
 
-lines-more : (cl : List ℕ) (n : ℕ) → linesFrom cl (n + 1) ≡ linesFrom cl n ++ (lineAt cl n ∷ [])
+lines-more : (claims : List ℕ) (n : ℕ) → linesFrom claims (n + 1) ≡ linesFrom claims n ++ (lineIn claims n ∷ [])
 unfolding linesFrom
-lines-more cl n = one-more-below (lineAt cl) n
+lines-more claims n = one-more-below (lineIn claims) n
 
 -- the first lines are the same where no row below is
-lines-same : (cl u : List ℕ) (k : ℕ) → ((i : ℕ) → i < k → lineAt u i ≡ lineAt cl i) → linesFrom u k ≡ linesFrom cl k
+lines-same : (claims claims2 : List ℕ) (k : ℕ) → ((i : ℕ) → i < k → lineIn claims2 i ≡ lineIn claims i) → linesFrom claims2 k ≡ linesFrom claims k
 unfolding linesFrom
-lines-same cl u k h = same-below (lineAt u) (lineAt cl) k h
+lines-same claims claims2 k h = same-below (lineIn claims2) (lineIn claims) k h
 
-pub trade-lines-more : (cl : List ℕ) (m k : ℕ) → tradeLines cl m (k + 1) ≡ tradeLines cl m k ++ (lineAt cl (numberAt cl m k) ∷ [])
+pub trade-lines-more : (claims : List ℕ) (m k : ℕ) → tradeLines claims m (k + 1) ≡ tradeLines claims m k ++ (lineIn claims (numberAt claims m k) ∷ [])
 unfolding tradeLines
-trade-lines-more cl m k = one-more-below (λ i. lineAt cl (numberAt cl m i)) k
+trade-lines-more claims m k = one-more-below (λ i. lineIn claims (numberAt claims m i)) k
 
-trade-lines-same : (cl u : List ℕ) (m k : ℕ) → ((i : ℕ) → i < k → lineAt u (numberAt u m i) ≡ lineAt cl (numberAt cl m i))
-    → tradeLines u m k ≡ tradeLines cl m k
+trade-lines-same : (claims claims2 : List ℕ) (m k : ℕ) → ((i : ℕ) → i < k → lineIn claims2 (numberAt claims2 m i) ≡ lineIn claims (numberAt claims m i))
+    → tradeLines claims2 m k ≡ tradeLines claims m k
 unfolding tradeLines
-trade-lines-same cl u m k h = same-below (λ i. lineAt u (numberAt u m i)) (λ i. lineAt cl (numberAt cl m i)) k h
+trade-lines-same claims claims2 m k h = same-below (λ i. lineIn claims2 (numberAt claims2 m i)) (λ i. lineIn claims (numberAt claims m i)) k h
 
 pub of-trade-more : (m : ℕ) (ls : List Line) (l : Line) → ofTrade m (ls ++ (l ∷ [])) ≡ ofTrade m ls ++ (if l .trade == m then l ∷ [] else [])
 unfolding ofTrade
@@ -98,9 +98,9 @@ unfolding linesOf
 lines-skip h e past ne = rw (ne-eqb (e .kind) satisfactionKind ne) (append-nil (linesOf h (e ∷ past) past))
 
 -- the table as it was, where the lines are
-pub lines-stay : (h : Header) (past : History) (cl : List ℕ) (n : ℕ) (e : Event) → (e .kind ≡ satisfactionKind → ⊥) → (e .kind ≡ cancellationKind → ⊥)
-    → linesOf h (e ∷ past) (e ∷ past) ≡ linesOf h past past → Lined h past cl n → Lined h (e ∷ past) cl n
-lines-stay h past cl n e ne nc all-same held =
+pub lines-stay : (h : Header) (past : History) (claims : List ℕ) (lines : ℕ) (e : Event) → (e .kind ≡ satisfactionKind → ⊥) → (e .kind ≡ cancellationKind → ⊥)
+    → linesOf h (e ∷ past) (e ∷ past) ≡ linesOf h past past → Lined h past claims lines → Lined h (e ∷ past) claims lines
+lines-stay h past claims lines e ne nc all-same held =
     let same = sym all-same in
     record {
       numbered = held .numbered ∙ sym (count-skip isSatisfaction e past (ne-eqb (e .kind) satisfactionKind ne));
@@ -111,10 +111,10 @@ lines-stay h past cl n e ne nc all-same held =
       again = λ m y hm hy. held .again m y hm hy ∙ ap againAt (sym (none-taken-back m (y + 1) e past (ne-eqb (e .kind) cancellationKind nc)));
     }
 
-lines-alone : (h : Header) (past : History) (cl : List ℕ) (n : ℕ) (e : Event) → (e .kind ≡ satisfactionKind → ⊥) → (e .kind ≡ namingKind → ⊥)
-    → (e .kind ≡ cancellationKind → ⊥) → Lined h past cl n → Lined h (e ∷ past) cl n
-lines-alone h past cl n e ns nn nc held =
-    lines-stay h past cl n e ns nc
+lines-alone : (h : Header) (past : History) (claims : List ℕ) (lines : ℕ) (e : Event) → (e .kind ≡ satisfactionKind → ⊥) → (e .kind ≡ namingKind → ⊥)
+    → (e .kind ≡ cancellationKind → ⊥) → Lined h past claims lines → Lined h (e ∷ past) claims lines
+lines-alone h past claims lines e ns nn nc held =
+    lines-stay h past claims lines e ns nc
     (lines-skip h e past ns ∙ lines-kept h e past past (ne-eqb (e .kind) namingKind nn))
     held
 
@@ -126,12 +126,12 @@ unfolding linesOf
 lines-new h e past k =
     rw (eq-eqb (e .kind) satisfactionKind k, lines-kept h e past past (ne-eqb (e .kind) namingKind (λ q. omega arith)))
 
-line-is : (u : List ℕ) (n why contracts due : ℕ) (r : Rec) (h : Header) (e : Event) (day past : History) → Reads e r
-    → ((i : ℕ) → i < 8 → getD u (n * 8 + i) 0 ≡ getD (word r 0 ∷ word r 3 ∷ why ∷ contracts ∷ due ∷ word r 1 ∷ word r 2 ∷ r .time ∷ []) i 0)
+line-is : (claims : List ℕ) (n why contracts due : ℕ) (r : Rec) (h : Header) (e : Event) (day past : History) → Reads e r
+    → ((i : ℕ) → i < 8 → getD claims (n * 8 + i) 0 ≡ getD (word r 0 ∷ word r 3 ∷ why ∷ contracts ∷ due ∷ word r 1 ∷ word r 2 ∷ r .time ∷ []) i 0)
     → why ≡ reason h (caseOf day past n e) → contracts ≡ customers (caseOf day past n e) → due ≡ claim h (caseOf day past n e)
-    → lineAt u n ≡ lineOf h day past n e
+    → lineIn claims n ≡ lineOf h day past n e
 unfolding lineOf
-line-is u n why contracts due r h e day past rd here a b c =
+line-is claims n why contracts due r h e day past rd here a b c =
     rw (
       here 0 (omega arith),
       here 1 (omega arith),
@@ -152,39 +152,39 @@ claim-at-most-size why size contracts traded closing =
 
 -- ---- a line's row and the three words of its trade
 
-module _ (cl c1 row : List ℕ) (n m k w : ℕ) (able : Fileable cl row n m) (first : Put cl c1 row n 8)
-    (ek : (k ≡ getD cl (manyAt m) 0) × (k < 4294967296)) (ew : w ≡ n) where
+module _ (claims claims1 row : List ℕ) (n m k w : ℕ) (able : Fileable claims row n m) (first : Put claims claims1 row n 8)
+    (ek : (k ≡ getD claims (manyAt m) 0) × (k < 4294967296)) (ew : w ≡ n) where
   abbrev many : ℕ
-  many = getD cl (manyAt m) 0 + 1
+  many = getD claims (manyAt m) 0 + 1
 
-  abbrev claims : ℕ
-  claims = getD cl (sumAt m) 0 + getD row 4 0
+  abbrev total : ℕ
+  total = getD claims (sumAt m) 0 + getD row 4 0
 
   abbrev filed : List ℕ
-  filed = set (set (set c1 (partAt m + k) w) (manyAt m) many) (sumAt m) claims
+  filed = set (set (set claims1 (partAt m + k) w) (manyAt m) many) (sumAt m) total
 
   few : k < mostTradeLines
   few = omega (arith, able .line-left, ek .0)
 
-  long-1 : length c1 ≡ lineWords
+  long-1 : length claims1 ≡ lineWords
   long-1 = first .long ∙ able .long
 
-  kept : (j : ℕ) → (j ≡ partAt m + k → ⊥) → (j ≡ manyAt m → ⊥) → (j ≡ sumAt m → ⊥) → getD filed j 0 ≡ getD c1 j 0
-  kept = others-kept c1 (partAt m + k) (manyAt m) (sumAt m) w many claims
+  kept : (j : ℕ) → (j ≡ partAt m + k → ⊥) → (j ≡ manyAt m → ⊥) → (j ≡ sumAt m → ⊥) → getD filed j 0 ≡ getD claims1 j 0
+  kept = others-kept claims1 (partAt m + k) (manyAt m) (sumAt m) w many total
 
-  row-word : (q i : ℕ) → q < mostSatisfactionOrders → i < 8 → getD filed (q * 8 + i) 0 ≡ getD c1 (q * 8 + i) 0
+  row-word : (q i : ℕ) → q < mostSatisfactionOrders → i < 8 → getD filed (q * 8 + i) 0 ≡ getD claims1 (q * 8 + i) 0
   row-word q i hq hi = kept (q * 8 + i) (λ z. omega arith) (λ z. omega arith) (λ z. omega arith)
 
   -- a word of a part that is none of the three
-  part-word : (q i : ℕ) → i < partWords → (q ≡ m → (i ≡ k → ⊥) × (i < mostTradeLines)) → getD filed (partAt q + i) 0 ≡ getD cl (partAt q + i) 0
+  part-word : (q i : ℕ) → i < partWords → (q ≡ m → (i ≡ k → ⊥) × (i < mostTradeLines)) → getD filed (partAt q + i) 0 ≡ getD claims (partAt q + i) 0
   part-word q i hi apart =
       kept (partAt q + i)
       (λ z. let same : q ≡ m = omega (arith, few) in apart same .0 (omega arith))
       (λ z. let same : q ≡ m = omega arith in let low = apart same .1 in omega arith)
       (λ z. let same : q ≡ m = omega arith in let low = apart same .1 in omega arith)
-      ∙ behind-row-kept cl c1 row n (partAt q + i) first (omega (arith, able .line))
+      ∙ behind-row-kept claims claims1 row n (partAt q + i) first (omega (arith, able .line))
 
-  pub line-filed : Filed cl filed row n m
+  pub line-filed : Filed claims filed row n m
   unfolding numberAt manyOf sumOf
   line-filed =
       record {
@@ -192,58 +192,58 @@ module _ (cl c1 row : List ℕ) (n m k w : ℕ) (able : Fileable cl row n m) (fi
         others = λ q i hq hi ne. row-word q i hq hi ∙ first .others q i hi ne;
         number-here =
             ap (λ (i : ℕ). getD filed (partAt m + i) 0) (sym (ek .0))
-            ∙ first-put c1 (partAt m + k) (manyAt m) (sumAt m) w many claims
+            ∙ first-put claims1 (partAt m + k) (manyAt m) (sumAt m) w many total
             (omega (arith, long-1, few, able .trade))
             (λ z. omega (arith, few))
             (λ z. omega (arith, few))
             ∙ ew;
         number-other = λ q i hq hi ne. part-word q i (omega arith) (λ same. (λ z. ne same (omega (arith, ek .0)), hi));
         many-here =
-            second-put c1 (partAt m + k) (manyAt m) (sumAt m) w many claims (omega (arith, long-1, able .trade)) (λ z. omega arith);
+            second-put claims1 (partAt m + k) (manyAt m) (sumAt m) w many total (omega (arith, long-1, able .trade)) (λ z. omega arith);
         many-other = λ q ne. part-word q mostTradeLines (omega arith) (λ same. absurd (ne same));
-        sum-here = third-put c1 (partAt m + k) (manyAt m) (sumAt m) w many claims (omega (arith, long-1, able .trade));
+        sum-here = third-put claims1 (partAt m + k) (manyAt m) (sumAt m) w many total (omega (arith, long-1, able .trade));
         sum-other = λ q ne. part-word q (mostTradeLines + 1) (omega arith) (λ same. absurd (ne same));
         behind =
             λ j hj. kept j (λ z. omega (arith, few, able .trade)) (λ z. omega (arith, able .trade)) (λ z. omega (arith, able .trade))
-            ∙ behind-row-kept cl c1 row n j first (omega (arith, able .line));
+            ∙ behind-row-kept claims claims1 row n j first (omega (arith, able .line));
         same-length = simp length-set (first .long);
       }
 
 -- the trade and the sender that a Satisfaction Order names
-module _ (r : Rec) (cl : List ℕ) (trades exchanges n : ℕ) (pl : Placed r cl trades exchanges n) (kind : r .kind ≡ satisfactionKind) where
-  module _ (ht : trades ≤ 128) (m : ℕ) (em : (m ≡ word r 0) × (m < 4294967296)) where
-    pub trade-known : m < 128
+module _ (r : Rec) (claims : List ℕ) (traded exchanges lines : ℕ) (pl : FitsClaims r claims traded exchanges lines) (kind : r .kind ≡ satisfactionKind) where
+  module _ (ht : traded ≤ mostTrades) (m : ℕ) (em : (m ≡ word r 0) × (m < 4294967296)) where
+    pub trade-known : m < mostTrades
     trade-known = omega (arith, em .0, pl .trade kind)
 
-    pub trade-word-known : (i : ℕ) → i < 8 → m * 8 + i < 1024
+    pub trade-word-known : (i : ℕ) → i < 8 → m * 8 + i < tradeWords
     trade-word-known i h = omega (arith, trade-known)
 
     -- the word of the trade and its sender
-    pub again-word-known : (x : ℕ) → (x ≡ word r 1) × (x < 4294967296) → (home : ℕ) → Headed exchanges home → againFrom + (m * 8 + (x - 1)) < lineWords
+    pub again-word-known : (x : ℕ) → (x ≡ word r 1) × (x < 4294967296) → (home : ℕ) → Headed exchanges home → againFrom + (m * mostExchanges + (x - 1)) < lineWords
     again-word-known x ex home head = omega (arith, trade-known, ex .0, pl .fields kind .sender .to-n, head .few)
 
   module _ (x : ℕ) (ex : (x ≡ word r 1) × (x < 4294967296)) where
     pub sender-from-one : 1 ≤ x
     sender-from-one = omega (arith, ex .0, pl .fields kind .sender .from-one)
 
-    pub sender-known : (home : ℕ) → Headed exchanges home → x - 1 < 8
+    pub sender-known : (home : ℕ) → Headed exchanges home → x - 1 < mostExchanges
     sender-known home ok = omega (arith, sender-from-one, ex .0, pl .fields kind .sender .to-n, ok .few)
 
-module _ (r : Rec) (home exchanges close : ℕ) (tr sn : List ℕ) (trades : ℕ) (cl : List ℕ) (n : ℕ) (ht : trades ≤ 128) (ok : Headed exchanges home)
-    (pl : Placed r cl trades exchanges n) (kind : r .kind ≡ satisfactionKind) (fi : Filing cl n)
+module _ (r : Rec) (home exchanges close : ℕ) (trades shown : List ℕ) (traded : ℕ) (claims : List ℕ) (lines : ℕ) (ht : traded ≤ mostTrades) (ok : Headed exchanges home)
+    (pl : FitsClaims r claims traded exchanges lines) (kind : r .kind ≡ satisfactionKind) (fi : Filing claims lines)
     (m : ℕ) (em : (m ≡ word r 0) × (m < 4294967296)) (x : ℕ) (ex : (x ≡ word r 1) × (x < 4294967296)) where
-  trade-low : m < 128
-  trade-low = trade-known r cl trades exchanges n pl kind ht m em
+  trade-low : m < mostTrades
+  trade-low = trade-known r claims traded exchanges lines pl kind ht m em
 
-  line-left : manyOf cl m < mostTradeLines
+  line-left : manyOf claims m < mostTradeLines
   line-left = rw (em .0) (pl .first kind)
 
-  module _ (again : ℕ) (eg : again ≡ getD cl (againWord m (x - 1)) 0) (k : Facts) (ek : k ≡ factsOf tr sn m (x - 1) home close (word r 2) (r .time) again) (why : ℕ) (ew : why ≡ reasonOf k)
-      (due : ℕ) (ed : due ≡ claimOf why (word r 3) (k .customers) (getD tr (m * 8 + 1) 0) (getD tr (m * 8 + 7) 0)) where
-    claim-small : due ≤ 100000
-    claim-small = omega (arith, claim-at-most-size why (word r 3) (k .customers) (getD tr (m * 8 + 1) 0) (getD tr (m * 8 + 7) 0), pl .fields kind .size, ed)
+  module _ (again : ℕ) (eg : again ≡ getD claims (againWord m (x - 1)) 0) (k : Facts) (ek : k ≡ factsOf trades shown m (x - 1) home close (word r 2) (r .time) again) (why : ℕ) (ew : why ≡ reasonOf k)
+      (due : ℕ) (ed : due ≡ claimOf why (word r 3) (k .customers) (getD trades (m * 8 + 1) 0) (getD trades (m * 8 + 7) 0)) where
+    claim-small : due ≤ mostContracts
+    claim-small = omega (arith, claim-at-most-size why (word r 3) (k .customers) (getD trades (m * 8 + 1) 0) (getD trades (m * 8 + 7) 0), pl .fields kind .size, ed)
 
-    pub order-fileable : Fileable cl (word r 0 ∷ word r 3 ∷ why ∷ k .customers ∷ due ∷ word r 1 ∷ word r 2 ∷ r .time ∷ []) n m
+    pub order-fileable : Fileable claims (word r 0 ∷ word r 3 ∷ why ∷ k .customers ∷ due ∷ word r 1 ∷ word r 2 ∷ r .time ∷ []) lines m
     unfolding manyOf sumOf
     order-fileable =
         record {
@@ -255,11 +255,11 @@ module _ (r : Rec) (home exchanges close : ℕ) (tr sn : List ℕ) (trades : ℕ
           long = fi .long;
         }
 
-    module _ (cl2 : List ℕ) (f : Filed cl cl2 (word r 0 ∷ word r 3 ∷ why ∷ k .customers ∷ due ∷ word r 1 ∷ word r 2 ∷ r .time ∷ []) n m) where
-      line-kept : (j : ℕ) → j < n → lineAt cl2 j ≡ lineAt cl j
+    module _ (claims2 : List ℕ) (f : Filed claims claims2 (word r 0 ∷ word r 3 ∷ why ∷ k .customers ∷ due ∷ word r 1 ∷ word r 2 ∷ r .time ∷ []) lines m) where
+      line-kept : (j : ℕ) → j < lines → lineIn claims2 j ≡ lineIn claims j
       line-kept j hj =
-          let low : j < 512 = omega (arith, fi .few) in
-          let ne : j ≡ n → ⊥ = λ z. omega arith in
+          let low : j < mostSatisfactionOrders = omega (arith, fi .few) in
+          let ne : j ≡ lines → ⊥ = λ z. omega arith in
           rw (
             f .others j 0 low (omega arith) ne,
             f .others j 1 low (omega arith) ne,
@@ -268,10 +268,10 @@ module _ (r : Rec) (home exchanges close : ℕ) (tr sn : List ℕ) (trades : ℕ
             f .others j 4 low (omega arith) ne,
           )
 
-      told-kept : (j : ℕ) → j < n → {order : Happened} → Told cl j order → Told cl2 j order
+      told-kept : (j : ℕ) → j < lines → {order : Happened} → LineTells claims j order → LineTells claims2 j order
       told-kept j hj t =
-          let low : j < 512 = omega (arith, fi .few) in
-          let ne : j ≡ n → ⊥ = λ z. omega arith in
+          let low : j < mostSatisfactionOrders = omega (arith, fi .few) in
+          let ne : j ≡ lines → ⊥ = λ z. omega arith in
           record {
             is-order = t .is-order;
             trade = f .others j 0 low (omega arith) ne ∙ t .trade;
@@ -282,7 +282,7 @@ module _ (r : Rec) (home exchanges close : ℕ) (tr sn : List ℕ) (trades : ℕ
 
       -- ---- the table alone
 
-      filing-after : Filing cl2 (n + 1)
+      filing-after : Filing claims2 (lines + 1)
       filing-after =
           record {
             few-lines =
@@ -290,10 +290,10 @@ module _ (r : Rec) (home exchanges close : ℕ) (tr sn : List ℕ) (trades : ℕ
                 (λ q. omega (arith, f .many-other a (eqb-false a m q), fi .few-lines a ha));
             earlier = λ a i ha hi. byTest (eqb a m) (λ q. new a i ha hi (eqb-true a m q)) (λ q. other a i ha hi (eqb-false a m q));
             of-trades =
-                λ i hi. byTest (eqb i n)
-                (λ q. rw (eqb-true i n q, f .here 0 (omega arith)) (omega (arith, trade-low, em .0)))
-                (λ q. let ne = eqb-false i n q in
-                let old : i < n = omega (arith, ne) in
+                λ i hi. byTest (eqb i lines)
+                (λ q. rw (eqb-true i lines q, f .here 0 (omega arith)) (omega (arith, trade-low, em .0)))
+                (λ q. let ne = eqb-false i lines q in
+                let old : i < lines = omega (arith, ne) in
                 rw (f .others i 0 (omega (arith, fi .few)) (omega arith) ne) (fi .of-trades i old));
             from-one = of-senders (λ a. 1 ≤ a) (pl .fields kind .sender .from-one) (fi .from-one);
             to-most = of-senders (λ a. a ≤ mostExchanges) (omega (arith, pl .fields kind .sender .to-n, ok .few)) (fi .to-most);
@@ -304,31 +304,31 @@ module _ (r : Rec) (home exchanges close : ℕ) (tr sn : List ℕ) (trades : ℕ
             long = f .same-length ∙ fi .long;
           }
         where
-          of-senders : (P : ℕ → Type 0) → P (word r 1) → ((i : ℕ) → i < n → P (getD cl (i * 8 + 5) 0)) → (i : ℕ) → i < n + 1 → P (getD cl2 (i * 8 + 5) 0)
+          of-senders : (P : ℕ → Type 0) → P (word r 1) → ((i : ℕ) → i < lines → P (getD claims (i * 8 + 5) 0)) → (i : ℕ) → i < lines + 1 → P (getD claims2 (i * 8 + 5) 0)
           of-senders P new old i hi =
-              byTest (eqb i n)
-              (λ q. rw (eqb-true i n q, f .here 5 (omega arith)) new)
-              (λ q. let ne = eqb-false i n q in
+              byTest (eqb i lines)
+              (λ q. rw (eqb-true i lines q, f .here 5 (omega arith)) new)
+              (λ q. let ne = eqb-false i lines q in
               rw (f .others i 5 (omega (arith, fi .few)) (omega arith) ne) (old i (omega (arith, ne))))
 
-          other : (a i : ℕ) → a < 128 → i < manyOf cl2 a → (a ≡ m → ⊥) → numberAt cl2 a i < n + 1
+          other : (a i : ℕ) → a < mostTrades → i < manyOf claims2 a → (a ≡ m → ⊥) → numberAt claims2 a i < lines + 1
           other a i ha hi ne =
-              let lt : i < manyOf cl a = omega (arith, f .many-other a ne) in
+              let lt : i < manyOf claims a = omega (arith, f .many-other a ne) in
               omega (arith, f .number-other a i ha (omega (arith, fi .few-lines a ha)) (λ p q. ne p), fi .earlier a i ha lt)
 
-          new : (a i : ℕ) → a < 128 → i < manyOf cl2 a → a ≡ m → numberAt cl2 a i < n + 1
+          new : (a i : ℕ) → a < mostTrades → i < manyOf claims2 a → a ≡ m → numberAt claims2 a i < lines + 1
           new a i ha hi p =
-              let hi2 : i < manyOf cl m + 1 = rw (← f .many-here, ← p) hi in
+              let hi2 : i < manyOf claims m + 1 = rw (← f .many-here, ← p) hi in
               rw p
-              (byTest (eqb i (manyOf cl m)) (λ q. rw (eqb-true i (manyOf cl m) q) (omega (arith, f .number-here)))
-              (λ q. let ne = eqb-false i (manyOf cl m) q in
-              let lt : i < manyOf cl m = omega (arith, ne) in
+              (byTest (eqb i (manyOf claims m)) (λ q. rw (eqb-true i (manyOf claims m) q) (omega (arith, f .number-here)))
+              (λ q. let ne = eqb-false i (manyOf claims m) q in
+              let lt : i < manyOf claims m = omega (arith, ne) in
               omega (arith, f .number-other m i trade-low (omega (arith, line-left)) (λ z1 z2. ne z2), fi .earlier m i trade-low lt)))
 
       -- ---- beside the history
 
       module _ (h : Header) (sizes : List ℕ) (e : Event) (past : History) (arrived : Arrived h past) (is : Heads h exchanges home sizes) (ec : h .close ≡ close) (rd : Reads e r)
-          (tv : Traded h past tr sn trades) (held : Lined h past cl n) where
+          (tv : Traded h past trades shown traded) (held : Lined h past claims lines) where
         sat : e .kind ≡ satisfactionKind
         sat = rd .kind ∙ kind
 
@@ -336,9 +336,9 @@ module _ (r : Rec) (home exchanges close : ℕ) (tr sn : List ℕ) (trades : ℕ
         names-trade = sym (rd .fields 0) ∙ sym (em .0)
 
         names-sender : field e 1 ≡ x - 1 + 1
-        names-sender = sym (rd .fields 1) ∙ sym (ex .0) ∙ omega (arith, sender-from-one r cl trades exchanges n pl kind x ex)
+        names-sender = sym (rd .fields 1) ∙ sym (ex .0) ∙ omega (arith, sender-from-one r claims traded exchanges lines pl kind x ex)
 
-        known : m < trades
+        known : m < traded
         known = omega (arith, em .0, pl .trade kind)
 
         sends : x - 1 < h .exchanges
@@ -347,37 +347,37 @@ module _ (r : Rec) (home exchanges close : ℕ) (tr sn : List ℕ) (trades : ℕ
         home-in : home ≤ h .exchanges
         home-in = let z = is .exchanges in omega (arith, ok .to-n)
 
-        stands : any (namesInTime h n e) (e ∷ past) ≡ false
+        stands : any (namesInTime h lines e) (e ∷ past) ≡ false
         unfolding any namesInTime names
         stands =
             rw (
               ne-eqb (e .kind) namingKind (λ q. omega (arith, sat)),
-              not-cancelled-in-time h n e past (not-named n past (none-cancelled-ahead arrived n (omega (arith, held .numbered)))),
+              not-cancelled-in-time h lines e past (not-named lines past (none-cancelled-ahead arrived lines (omega (arith, held .numbered)))),
             )
 
         again-told : again ≡ againAt (takenBack m (x - 1 + 1) past)
         again-told = eg ∙ held .again m (x - 1) trade-low (omega (arith, sends, is .exchanges, ok .few))
 
-        why-is : why ≡ reason h (caseOf (e ∷ past) past n e)
+        why-is : why ≡ reason h (caseOf (e ∷ past) past lines e)
         why-is =
             ew ∙ ap reasonOf ek
-            ∙ reason-is h (e ∷ past) past n tr sn trades m (x - 1) home tv known sends (is .home) (ok .from-one) home-in e names-trade names-sender stands
+            ∙ reason-is h (e ∷ past) past lines trades shown traded m (x - 1) home tv known sends (is .home) (ok .from-one) home-in e names-trade names-sender stands
             (taken-back-at-most-once arrived m (x - 1 + 1))
             close (word r 2) (r .time) again ec (sym (rd .fields 2)) (rd .time) again-told
 
-        contracts-are : k .customers ≡ customers (caseOf (e ∷ past) past n e)
+        contracts-are : k .customers ≡ customers (caseOf (e ∷ past) past lines e)
         unfolding factsOf
         contracts-are =
             ap (λ (f : Facts). f .customers) ek
-            ∙ customers-are h (e ∷ past) past n tr sn trades m (x - 1) home tv known sends (is .home) (ok .from-one) home-in e names-trade names-sender
+            ∙ customers-are h (e ∷ past) past lines trades shown traded m (x - 1) home tv known sends (is .home) (ok .from-one) home-in e names-trade names-sender
 
-        due-is : due ≡ claim h (caseOf (e ∷ past) past n e)
+        due-is : due ≡ claim h (caseOf (e ∷ past) past lines e)
         due-is =
             ed
-            ∙ claim-is h (e ∷ past) past n tr sn trades m (x - 1) home tv known sends (is .home) (ok .from-one) home-in e names-trade names-sender
+            ∙ claim-is h (e ∷ past) past lines trades shown traded m (x - 1) home tv known sends (is .home) (ok .from-one) home-in e names-trade names-sender
             why (k .customers) (word r 3) why-is contracts-are (sym (rd .fields 3))
 
-        newest-told : Told cl2 n (record { event = e; before = past })
+        newest-told : LineTells claims2 lines (record { event = e; before = past })
         newest-told =
             record {
               is-order = eq-eqb (e .kind) satisfactionKind sat;
@@ -387,55 +387,55 @@ module _ (r : Rec) (home exchanges close : ℕ) (tr sn : List ℕ) (trades : ℕ
               time = f .here 7 (omega arith) ∙ sym (rd .time);
             }
 
-        told-after : (i : ℕ) → i < n + 1 → Told cl2 i (nth isSatisfaction i (e ∷ past))
+        told-after : (i : ℕ) → i < lines + 1 → LineTells claims2 i (nth isSatisfaction i (e ∷ past))
         told-after i hi =
-            byTest (eqb i n)
-            (λ q. let new : i ≡ n = eqb-true i n q in
-            rw (new, nth-new isSatisfaction n e past (eq-eqb (e .kind) satisfactionKind sat) (held .numbered)) newest-told)
-            (λ q. let ne : i ≡ n → ⊥ = eqb-false i n q in
-            let old : i < n = omega (arith, ne) in
+            byTest (eqb i lines)
+            (λ q. let new : i ≡ lines = eqb-true i lines q in
+            rw (new, nth-new isSatisfaction lines e past (eq-eqb (e .kind) satisfactionKind sat) (held .numbered)) newest-told)
+            (λ q. let ne : i ≡ lines → ⊥ = eqb-false i lines q in
+            let old : i < lines = omega (arith, ne) in
             rw (nth-older isSatisfaction i e past (omega (arith, held .numbered))) (told-kept i old (held .told i old)))
 
-        newest-line : lineAt cl2 n ≡ lineOf h (e ∷ past) past n e
-        newest-line = line-is cl2 n why (k .customers) due r h e (e ∷ past) past rd (f .here) why-is contracts-are due-is
+        newest-line : lineIn claims2 lines ≡ lineOf h (e ∷ past) past lines e
+        newest-line = line-is claims2 lines why (k .customers) due r h e (e ∷ past) past rd (f .here) why-is contracts-are due-is
 
-        all-lines : linesOf h (e ∷ past) (e ∷ past) ≡ linesOf h past past ++ (lineOf h (e ∷ past) past n e ∷ [])
+        all-lines : linesOf h (e ∷ past) (e ∷ past) ≡ linesOf h past past ++ (lineOf h (e ∷ past) past lines e ∷ [])
         all-lines =
             lines-new h e past sat ∙ ap (λ (i : ℕ). linesOf h past past ++ (lineOf h (e ∷ past) past i e ∷ [])) (sym (held .numbered))
 
-        lines-after : linesFrom cl2 (n + 1) ≡ linesOf h (e ∷ past) (e ∷ past)
-        lines-after = lines-more cl2 n ∙ rw (lines-same cl cl2 n line-kept, held .lines, newest-line) (sym all-lines)
+        lines-after : linesFrom claims2 (lines + 1) ≡ linesOf h (e ∷ past) (e ∷ past)
+        lines-after = lines-more claims2 lines ∙ rw (lines-same claims claims2 lines line-kept, held .lines, newest-line) (sym all-lines)
 
-        old-lines : (a : ℕ) → a < 128 → tradeLines cl2 a (manyOf cl a) ≡ ofTrade a (linesOf h past past)
+        old-lines : (a : ℕ) → a < mostTrades → tradeLines claims2 a (manyOf claims a) ≡ ofTrade a (linesOf h past past)
         old-lines a ha =
-            trade-lines-same cl cl2 a (manyOf cl a)
-            (λ i hi. let same : numberAt cl2 a i ≡ numberAt cl a i =
-            f .number-other a i ha (omega (arith, fi .few-lines a ha)) (λ p q. let z : manyOf cl a ≡ manyOf cl m = ap (manyOf cl) p in omega arith) in
-            ap (lineAt cl2) same ∙ line-kept (numberAt cl a i) (fi .earlier a i ha hi))
+            trade-lines-same claims claims2 a (manyOf claims a)
+            (λ i hi. let same : numberAt claims2 a i ≡ numberAt claims a i =
+            f .number-other a i ha (omega (arith, fi .few-lines a ha)) (λ p q. let z : manyOf claims a ≡ manyOf claims m = ap (manyOf claims) p in omega arith) in
+            ap (lineIn claims2) same ∙ line-kept (numberAt claims a i) (fi .earlier a i ha hi))
             ∙ held .by-trade a ha
 
-        by-trade-after : (a : ℕ) → a < 128 → tradeLines cl2 a (manyOf cl2 a) ≡ ofTrade a (linesOf h (e ∷ past) (e ∷ past))
+        by-trade-after : (a : ℕ) → a < mostTrades → tradeLines claims2 a (manyOf claims2 a) ≡ ofTrade a (linesOf h (e ∷ past) (e ∷ past))
         by-trade-after a ha =
-            rw (all-lines, of-trade-more a (linesOf h past past) (lineOf h (e ∷ past) past n e))
+            rw (all-lines, of-trade-more a (linesOf h past past) (lineOf h (e ∷ past) past lines e))
             (byTest (eqb (field e 0) a)
             (λ q. let z : a ≡ m = sym (eqb-true (field e 0) a q) ∙ names-trade in
-            in-its-trade h (e ∷ past) past n e a (ofTrade a (linesOf h past past)) (tradeLines cl2 a (manyOf cl2 a)) (rw z (its-lines z)) q)
+            in-its-trade h (e ∷ past) past lines e a (ofTrade a (linesOf h past past)) (tradeLines claims2 a (manyOf claims2 a)) (rw z (its-lines z)) q)
             (λ q. let ne : a ≡ m → ⊥ = λ z. eqb-false (field e 0) a q (names-trade ∙ sym z) in
-            in-another h (e ∷ past) past n e a (ofTrade a (linesOf h past past)) (tradeLines cl2 a (manyOf cl2 a)) (rw (f .many-other a ne) (old-lines a ha)) q))
+            in-another h (e ∷ past) past lines e a (ofTrade a (linesOf h past past)) (tradeLines claims2 a (manyOf claims2 a)) (rw (f .many-other a ne) (old-lines a ha)) q))
           where
-            its-lines : a ≡ m → tradeLines cl2 m (manyOf cl2 m) ≡ ofTrade m (linesOf h past past) ++ (lineOf h (e ∷ past) past n e ∷ [])
+            its-lines : a ≡ m → tradeLines claims2 m (manyOf claims2 m) ≡ ofTrade m (linesOf h past past) ++ (lineOf h (e ∷ past) past lines e ∷ [])
             its-lines z =
-                rw (f .many-here) (trade-lines-more cl2 m (manyOf cl m) ∙ rw (old-lines m trade-low, f .number-here, newest-line))
+                rw (f .many-here) (trade-lines-more claims2 m (manyOf claims m) ∙ rw (old-lines m trade-low, f .number-here, newest-line))
 
-        sums-after : (a : ℕ) → a < 128 → sumOf cl2 a ≡ sum (claimsOf (ofTrade a (linesOf h (e ∷ past) (e ∷ past))))
+        sums-after : (a : ℕ) → a < mostTrades → sumOf claims2 a ≡ sum (claimsOf (ofTrade a (linesOf h (e ∷ past) (e ∷ past))))
         sums-after a ha =
-            rw (all-lines, sum-more a (linesOf h past past) (lineOf h (e ∷ past) past n e))
+            rw (all-lines, sum-more a (linesOf h past past) (lineOf h (e ∷ past) past lines e))
             (byTest (eqb (field e 0) a)
             (λ q. let z : a ≡ m = sym (eqb-true (field e 0) a q) ∙ names-trade in
-            line-words h (e ∷ past) past n e a _ _ (rw z (f .sum-here ∙ rw (held .sums m trade-low, due-is))) q)
-            (λ q. other-line h (e ∷ past) past n e a _ _ (f .sum-other a (λ z. eqb-false (field e 0) a q (names-trade ∙ sym z)) ∙ held .sums a ha) q))
+            line-words h (e ∷ past) past lines e a _ _ (rw z (f .sum-here ∙ rw (held .sums m trade-low, due-is))) q)
+            (λ q. other-line h (e ∷ past) past lines e a _ _ (f .sum-other a (λ z. eqb-false (field e 0) a q (names-trade ∙ sym z)) ∙ held .sums a ha) q))
 
-        lined-after : Lined h (e ∷ past) cl2 (n + 1)
+        lined-after : Lined h (e ∷ past) claims2 (lines + 1)
         lined-after =
             record {
               numbered = omega (arith, held .numbered, count-cons isSatisfaction e past (eq-eqb (e .kind) satisfactionKind sat));
@@ -448,23 +448,23 @@ module _ (r : Rec) (home exchanges close : ℕ) (tr sn : List ℕ) (trades : ℕ
                   ∙ ap againAt (sym (none-taken-back a (y + 1) e past (ne-eqb (e .kind) cancellationKind (λ q. omega (arith, sat)))));
             }
 
-      pub order-taken : ClaimsStep r home exchanges close tr sn trades cl n cl2 (n + 1)
+      pub order-taken : ClaimsStep r home exchanges close trades shown traded claims lines claims2 (lines + 1)
       order-taken = record { filing = filing-after; so = lined-after }
 
-pub no-order : (r : Rec) (home exchanges close : ℕ) (tr sn : List ℕ) (trades : ℕ) (cl : List ℕ) (n : ℕ) → Filing cl n
-    → (r .kind ≡ satisfactionKind → ⊥) → (r .kind ≡ namingKind → ⊥) → (r .kind ≡ cancellationKind → ⊥) → ClaimsStep r home exchanges close tr sn trades cl n cl n
-no-order r home exchanges close tr sn trades cl n fi ns nn nc =
+pub no-order : (r : Rec) (home exchanges close : ℕ) (trades shown : List ℕ) (traded : ℕ) (claims : List ℕ) (lines : ℕ) → Filing claims lines
+    → (r .kind ≡ satisfactionKind → ⊥) → (r .kind ≡ namingKind → ⊥) → (r .kind ≡ cancellationKind → ⊥) → ClaimsStep r home exchanges close trades shown traded claims lines claims lines
+no-order r home exchanges close trades shown traded claims lines fi ns nn nc =
     record {
       filing = fi;
-      so = λ h sizes e past arrived is ec rd tv held. lines-alone h past cl n e (λ z. ns (sym (rd .kind) ∙ z)) (λ z. nn (sym (rd .kind) ∙ z)) (λ z. nc (sym (rd .kind) ∙ z)) held;
+      so = λ h sizes e past arrived is ec rd tv held. lines-alone h past claims lines e (λ z. ns (sym (rd .kind) ∙ z)) (λ z. nn (sym (rd .kind) ∙ z)) (λ z. nc (sym (rd .kind) ∙ z)) held;
     }
 
 -- a record that the reader has passed, and 7 and 8
-pub record-placed : (exchanges home : ℕ) (r : Rec) (cl : List ℕ) (trades n : ℕ) → RecOk exchanges home r
-    → (r .kind ≡ satisfactionKind → word r 0 < trades) → (r .kind ≡ satisfactionKind → manyOf cl (word r 0) < mostTradeLines)
-    → (r .kind ≡ satisfactionKind → n < 512) → (r .kind ≡ namingKind → word r 0 < n) → (r .kind ≡ namingKind → Cancellable cl (word r 0))
-    → (r .kind ≡ cancellationKind → word r 0 < n) → Placed r cl trades exchanges n
-record-placed exchanges home r cl trades n ok known left room order cancellable withdrawn =
+pub record-placed : (exchanges home : ℕ) (r : Rec) (claims : List ℕ) (traded lines : ℕ) → RecOk exchanges home r
+    → (r .kind ≡ satisfactionKind → word r 0 < traded) → (r .kind ≡ satisfactionKind → manyOf claims (word r 0) < mostTradeLines)
+    → (r .kind ≡ satisfactionKind → lines < mostSatisfactionOrders) → (r .kind ≡ namingKind → word r 0 < lines) → (r .kind ≡ namingKind → Cancellable claims (word r 0))
+    → (r .kind ≡ cancellationKind → word r 0 < lines) → FitsClaims r claims traded exchanges lines
+record-placed exchanges home r claims traded lines ok known left room order cancellable withdrawn =
     record {
       fields = λ k. let g = ok .satisfaction k in
           record {

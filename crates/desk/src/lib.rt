@@ -4,6 +4,7 @@ ghost use mathlib.Core.List.{[], _∷_};
 ghost use Prim.Native.Nat.{_+_, _%_, _≤_};
 ghost use lib.ListN.{length, take};
 ghost use Rattle.rules.specs.Basics.{refused};
+ghost use Rattle.limits.specs.Limits.{batchWords};
 ghost use Rattle.rules.specs.Journal.{journal};
 ghost use Rattle.rules.specs.SheetCheck.{checkSheet};
 ghost use Rattle.rules.specs.Writing.{into, rewriteJournal, writeSheet, writeDay};
@@ -27,10 +28,10 @@ fn refusal(no: u32, place: usize) -> u64
     rows::wide(no) * Code::UNIT + place as u64 % Code::UNIT
 }
 
-fn coded(w: Rewritten) -> u64
-    ensures { λ r. ⌜ r ≡ codeOf (rewrittenAs w) ⌝ }
+fn coded(answer: Rewritten) -> u64
+    ensures { λ r. ⌜ r ≡ codeOf (rewrittenAs answer) ⌝ }
 {
-    match w {
+    match answer {
         Rewritten::Written { bytes } => bytes as u64 % Code::UNIT,
         Rewritten::Unwritten { no, place } => refusal(no, place),
     }
@@ -50,14 +51,14 @@ pub extern "C" fn hasurenta_journal(j: &[u8]) -> u64
 fn put_totals(out: &mut [u64], sent: u64, filled: u64, cancelled: u64, pending: u64) -> u64
     ensures { λ r. ⌜ Gives (into (length (now (out .entry))) (sent ∷ filled ∷ cancelled ∷ pending ∷ [])) (now (out .entry)) r (now (out .exit)) ⌝ }
 {
-    if out.len() < 4 {
+    if out.len() < Handed::TOTALS {
         return refusal(Refusal::OUTPUT_TOO_SHORT, 0);
     }
     out[0] = sent;
     out[1] = filled;
     out[2] = cancelled;
     out[3] = pending;
-    4
+    Handed::TOTALS as u64
 }
 
 #[no_mangle]
@@ -106,35 +107,48 @@ pub extern "C" fn hasurenta_rewrite(j: &[u8], out: &mut [u8]) -> u64
     coded(journal::rewrite(j, out))
 }
 
-// How many numbers the functions below take, and how many words the reader of a record writes.
-pub struct Numbers;
+// How many numbers the functions below are handed, where each of them stands, and how many words are written.
+pub struct Handed;
 
-impl Numbers {
+impl Handed {
+    // sent, filled, cancelled, pending
+    pub const TOTALS: usize = 4;
+
     pub const HEADER: usize = Given::HEADER;
 
     // and the time so far
-    pub const READING: usize = Numbers::HEADER + 1;
+    pub const READING: usize = Handed::HEADER + 1;
 
     // and the record's own
-    pub const RECORD_LEAST: usize = Numbers::READING + Given::RECORD_LEAST;
+    pub const RECORD_LEAST: usize = Handed::READING + Given::RECORD_LEAST;
 
-    pub const RECORD_MOST: usize = Numbers::READING + Given::RECORD_MOST;
+    pub const RECORD_MOST: usize = Handed::READING + Given::RECORD_MOST;
+
+    // behind the header's the time so far
+    pub const TIME: usize = Handed::HEADER;
+
+    // behind it the record's kind, milliseconds and fields
+    pub const KIND: usize = Handed::READING;
+
+    pub const ELAPSED: usize = Handed::KIND + 1;
+
+    pub const FIELDS: usize = Handed::ELAPSED + 1;
 
     // bytes used, kind, milliseconds
     pub const WORDS_FRONT: usize = 3;
 
     // and the fields of the longest batch
-    pub const RECORD_WORDS_MOST: usize = Numbers::WORDS_FRONT + Batch::WORDS;
+    pub const RECORD_WORDS_MOST: usize = Handed::WORDS_FRONT + Batch::WORDS;
 
     // the refusal of more or fewer
     pub const WRONG_COUNT: u32 = 98;
 }
 
-fn written(w: Written) -> u64
-    ensures { λ r. ⌜ r ≡ codeOf (asAnswer w) ⌝ }
+fn written(answer: Written) -> u64
+    ensures { λ r. ⌜ r ≡ codeOf (asAnswer answer) ⌝ }
 {
-    match w {
-        Written::To(n) => n as u64 % Code::UNIT,
+    match answer {
+        Written::To(bytes) => bytes as u64 % Code::UNIT,
         Written::Refused(no) => refusal(no, 0),
     }
 }
@@ -143,8 +157,8 @@ fn written(w: Written) -> u64
 pub extern "C" fn hasurenta_write_header(numbers: &[u32], out: &mut [u8]) -> u64
     ensures { λ r. ⌜ Gives (writeHeaderFrom (now (numbers .entry)) (length (now (out .entry)))) (now (out .entry)) r (now (out .exit)) ⌝ }
 {
-    if numbers.len() != Numbers::HEADER {
-        return refusal(Numbers::WRONG_COUNT, 0);
+    if numbers.len() != Handed::HEADER {
+        return refusal(Handed::WRONG_COUNT, 0);
     }
     let head = given::head_of(numbers);
     written(header::write_header(out, head))
@@ -154,20 +168,20 @@ pub extern "C" fn hasurenta_write_header(numbers: &[u32], out: &mut [u8]) -> u64
 pub extern "C" fn hasurenta_write_record(numbers: &[u32], out: &mut [u8]) -> u64
     ensures { λ r. ⌜ Gives (writeRecordFrom (now (numbers .entry)) (length (now (out .entry)))) (now (out .entry)) r (now (out .exit)) ⌝ }
 {
-    if numbers.len() < Numbers::RECORD_LEAST {
-        return refusal(Numbers::WRONG_COUNT, 0);
+    if numbers.len() < Handed::RECORD_LEAST {
+        return refusal(Handed::WRONG_COUNT, 0);
     }
-    if Numbers::RECORD_MOST < numbers.len() {
-        return refusal(Numbers::WRONG_COUNT, 0);
+    if Handed::RECORD_MOST < numbers.len() {
+        return refusal(Handed::WRONG_COUNT, 0);
     }
     let head = given::head_of(numbers);
     written(alone::write_record(
         out,
         head,
-        numbers[19],
-        numbers[20],
-        numbers[21],
-        &numbers[22..],
+        numbers[Handed::TIME],
+        numbers[Handed::KIND],
+        numbers[Handed::ELAPSED],
+        &numbers[Handed::FIELDS..],
     ))
 }
 
@@ -186,7 +200,7 @@ fn put_fields(fields: &[u32], count: usize, out: &mut [u32])
     requires { ⌜ (count ≤ length (now fields)) × (3 + count ≤ length (now out)) ⌝ }
     ensures { λ _. ⌜ now (out .exit) ≡ behindThree (now (fields .entry)) count (now (out .entry)) ⌝ }
 {
-    rows::copy_first(fields, count, &mut out[Numbers::WORDS_FRONT..]);
+    rows::copy_first(fields, count, &mut out[Handed::WORDS_FRONT..]);
 }
 
 // Bytes used, kind, milliseconds and so many fields, or 9 and nothing.
@@ -198,29 +212,29 @@ fn put_record(
     count: usize,
     out: &mut [u32],
 ) -> u64
-    requires { ⌜ (count ≤ 226) × (count ≤ length (now fields)) ⌝ }
+    requires { ⌜ (count ≤ batchWords) × (count ≤ length (now fields)) ⌝ }
     ensures { λ r. ⌜ Gives (into (length (now (out .entry))) (used % refusalUnit ∷ kind ∷ elapsed ∷ take count (now (fields .entry)))) (now (out .entry)) r (now (out .exit)) ⌝ }
 {
-    if out.len() < Numbers::WORDS_FRONT + count {
+    if out.len() < Handed::WORDS_FRONT + count {
         return refusal(Refusal::OUTPUT_TOO_SHORT, 0);
     }
     out[0] = (used as u64 % Code::UNIT) as u32;
     out[1] = kind;
     out[2] = elapsed;
     put_fields(fields, count, out);
-    (Numbers::WORDS_FRONT + count) as u64 % Code::UNIT
+    (Handed::WORDS_FRONT + count) as u64 % Code::UNIT
 }
 
 #[no_mangle]
 pub extern "C" fn hasurenta_read_record(numbers: &[u32], bytes: &[u8], out: &mut [u32]) -> u64
     ensures { λ r. ⌜ Gives (readRecordFrom (now (numbers .entry)) (now (bytes .entry)) (length (now (out .entry)))) (now (out .entry)) r (now (out .exit)) ⌝ }
 {
-    if numbers.len() != Numbers::READING {
-        return refusal(Numbers::WRONG_COUNT, 0);
+    if numbers.len() != Handed::READING {
+        return refusal(Handed::WRONG_COUNT, 0);
     }
     let head = given::head_of(numbers);
     let mut fields = [0u32; Batch::WORDS];
-    let taken = alone::read_record(bytes, head, numbers[19], &mut fields);
+    let taken = alone::read_record(bytes, head, numbers[Handed::TIME], &mut fields);
     if taken.no != 0 {
         return refusal(taken.no, taken.place);
     }

@@ -1,5 +1,5 @@
-pub mod Orders
-pub mod Chains
+pub mod OrderLaws
+pub mod ChainLaws
 pub mod Words
 pub mod Sweep
 pub mod Look

@@ -40,17 +40,17 @@ module _ (flag side price bid offer : ℕ) where
 
 pub ruleset outlives-laws = (ended-not-outlived, standing-outlived)
 
-module _ (way sent flag side now : ℕ) where
-  pub other-side-not-excusing : (way ≡ side → ⊥) → false ≡ excusing way sent flag side now
+module _ (way time flag side now : ℕ) where
+  pub other-side-not-excusing : (way ≡ side → ⊥) → false ≡ excusing way time flag side now
   unfolding excusing
   other-side-not-excusing p = rw (ne-eqb way side p)
 
-  pub ended-not-excusing : (flag ≡ 1 → ⊥) → false ≡ excusing way sent flag side now
+  pub ended-not-excusing : (flag ≡ 1 → ⊥) → false ≡ excusing way time flag side now
   unfolding excusing
-  ended-not-excusing p = rw (ne-eqb flag 1 p) (sym (and-false (eqb way side && ltb (sent + excuseWait) now)))
+  ended-not-excusing p = rw (ne-eqb flag 1 p) (sym (and-false (eqb way side && ltb (time + excuseWait) now)))
 
-  pub excusing-by-time : way ≡ side → flag ≡ 1 → (a b : ℕ) → a ≡ sent → b ≡ now → ltb (a + 20_000) b ≡ excusing way sent flag side now
+  pub excusing-by-time : way ≡ side → flag ≡ 1 → (a b : ℕ) → a ≡ time → b ≡ now → ltb (a + 20_000) b ≡ excusing way time flag side now
   unfolding excusing
-  excusing-by-time p q a b ea eb = rw (eq-eqb way side p, eq-eqb flag 1 q, ea, eb) (sym (and-true (ltb (sent + excuseWait) now)))
+  excusing-by-time p q a b ea eb = rw (eq-eqb way side p, eq-eqb flag 1 q, ea, eb) (sym (and-true (ltb (time + excuseWait) now)))
 
 pub ruleset excusing-laws = (other-side-not-excusing, ended-not-excusing, excusing-by-time)

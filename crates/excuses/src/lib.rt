@@ -2,11 +2,14 @@
 ghost use mathlib.Core.Path.{_≡_};
 ghost use Prim.Native.Nat.{_+_, _-_, _*_, _<_, _≤_};
 ghost use lib.ListN.{getD, length};
+ghost use Rattle.rules.specs.Limits.{mostExchanges, mostSentOrders};
 ghost use Rattle.rules.specs.Record.{quoteKind, sentKind, responseKind};
 ghost use Rattle.rows.specs.Rows.{word, QuoteOk, OrderOk};
 ghost use Rattle.quotes.specs.Tables.{Within};
-ghost use Rattle.excuses.specs.Excuses.{Chains, Placed, Filled, ExcusesStep, ExcuserIs, backed, outlived, excusing};
-use numbered::SentOrder;
+ghost use Rattle.excuses.specs.Excuses.{orderWords, Chains, FitsOrders, ResponseKept, ExcusesStep, ExcuserIs, backed, outlived, excusing};
+use counted::SentOrder;
+use limits::Exchanges;
+use quotes::Quote;
 use rows::Rec;
 use rows::Way;
 
@@ -28,42 +31,56 @@ impl Excuse {
     pub const WAIT: u64 = 20000;
 }
 
-pub fn number(n: usize) -> u32
-    requires { ⌜ n < 4294967296 ⌝ }
-    ensures { λ r. ⌜ r ≡ n ⌝ }
-{
-    n as u32
+// The table of sent orders: a row of eight words for each.
+pub struct Orders;
+
+impl Orders {
+    pub const WORDS: usize = SentOrder::MOST * 8;
+}
+
+// The chains' table: where the chain of each exchange and series begins, then where it goes on after each order.
+pub struct Chain;
+
+impl Chain {
+    pub const HEADS: usize = Exchanges::MOST as usize * Quote::SERIES;
+
+    pub const WORDS: usize = Chain::HEADS + SentOrder::MOST;
 }
 
 // A new order's excuse stands, and its chain begins with it.
-fn sent(t: &mut [u32; 2048], ch: &mut [u32; 512], n: usize, r: Rec) -> usize
-    requires { ⌜ (r .kind ≡ sentKind) × (n < 256) ⌝ }
-    requires { ⌜ OrderOk 8 0 r ⌝ }
-    requires { ⌜ Chains (now t) (now ch) n ⌝ }
-    ensures { λ m. ⌜ ExcusesStep r (now (t .entry)) n (now (t .exit)) (now (ch .exit)) m ⌝ }
+fn keep_sent(
+    orders: &mut [u32; Orders::WORDS],
+    chains: &mut [u32; Chain::WORDS],
+    sent: usize,
+    r: Rec,
+) -> usize
+    requires { ⌜ (r .kind ≡ sentKind) × (sent < mostSentOrders) ⌝ }
+    requires { ⌜ OrderOk mostExchanges 0 r ⌝ }
+    requires { ⌜ Chains (now orders) (now chains) sent ⌝ }
+    ensures { λ m. ⌜ ExcusesStep r (now (orders .entry)) sent (now (orders .exit)) (now (chains .exit)) m ⌝ }
 {
     let row = r.row;
     let chain = quotes::row_of(rows::index(row[1]), rows::index(row[2]));
     rows::put_row(
-        t,
-        n,
+        orders,
+        sent,
         [row[0], row[1], row[2], row[3], row[4], row[5], r.time, 1],
     );
-    let older = ch[chain];
-    ch[SentOrder::MOST + n] = older;
-    ch[chain] = number(n + 1);
-    n + 1
+    let older = chains[chain];
+    chains[Chain::HEADS + sent] = older;
+    chains[chain] = rows::narrow(sent + 1);
+    sent + 1
 }
 
 // "filled in full": the excuse ends there.
-fn answered(t: &mut [u32; 2048], n: usize, r: Rec)
-    requires { ⌜ (r .kind ≡ responseKind) × (word r 0 < n) × (n ≤ 256) × (length (now t) ≡ 2048) ⌝ }
-    ensures { λ _. ⌜ Filled r (now (t .entry)) n (now (t .exit)) ⌝ }
+fn answered(orders: &mut [u32; Orders::WORDS], sent: usize, r: Rec)
+    requires { ⌜ (r .kind ≡ responseKind) × (word r 0 < sent) × (sent ≤ mostSentOrders) × (length (now orders) ≡ orderWords) ⌝ }
+    ensures { λ _. ⌜ ResponseKept r (now (orders .entry)) sent (now (orders .exit)) ⌝ }
 {
     let row = r.row;
     let at = rows::index(row[0]) * 8;
-    if t[at + Excuse::SIZE] == row[1] {
-        t[at + Excuse::STANDS] = 0;
+    if orders[at + Excuse::SIZE] == row[1] {
+        orders[at + Excuse::STANDS] = 0;
         return;
     }
 }
@@ -82,16 +99,16 @@ fn backs_away(side: u32, price: u32, bid: u32, offer: u32) -> bool
     bid < price
 }
 
-fn outlives(t: &[u32; 2048], m: usize, bid: u32, offer: u32) -> bool
-    requires { ⌜ (m < 256) × (1 ≤ getD (now t) (m * 8 + 4) 0) ⌝ }
-    ensures { λ r. ⌜ r ≡ outlived (getD (now (t .entry)) (m * 8 + 7) 0) (getD (now (t .entry)) (m * 8 + 3) 0) (getD (now (t .entry)) (m * 8 + 4) 0) bid offer ⌝ }
+fn outlives(orders: &[u32; Orders::WORDS], m: usize, bid: u32, offer: u32) -> bool
+    requires { ⌜ (m < mostSentOrders) × (1 ≤ getD (now orders) (m * 8 + 4) 0) ⌝ }
+    ensures { λ r. ⌜ r ≡ outlived (getD (now (orders .entry)) (m * 8 + 7) 0) (getD (now (orders .entry)) (m * 8 + 3) 0) (getD (now (orders .entry)) (m * 8 + 4) 0) bid offer ⌝ }
 {
-    if t[m * 8 + Excuse::STANDS] != 1 {
+    if orders[m * 8 + Excuse::STANDS] != 1 {
         return false;
     }
     !backs_away(
-        t[m * 8 + Excuse::SIDE],
-        t[m * 8 + Excuse::PRICE],
+        orders[m * 8 + Excuse::SIDE],
+        orders[m * 8 + Excuse::PRICE],
         bid,
         offer,
     )
@@ -99,86 +116,96 @@ fn outlives(t: &[u32; 2048], m: usize, bid: u32, offer: u32) -> bool
 
 // A quote ends the excuses that it backs away from. Orders whose excuse has ended leave the chain, so that no later quote or
 // trade looks at them again.
-pub fn quoted(t: &mut [u32; 2048], ch: &mut [u32; 512], n: usize, r: Rec)
+pub fn quoted(
+    orders: &mut [u32; Orders::WORDS],
+    chains: &mut [u32; Chain::WORDS],
+    sent: usize,
+    r: Rec,
+)
     requires { ⌜ r .kind ≡ quoteKind ⌝ }
-    requires { ⌜ QuoteOk 8 r ⌝ }
-    requires { ⌜ Chains (now t) (now ch) n ⌝ }
-    ensures { λ _. ⌜ ExcusesStep r (now (t .entry)) n (now (t .exit)) (now (ch .exit)) n ⌝ }
+    requires { ⌜ QuoteOk mostExchanges r ⌝ }
+    requires { ⌜ Chains (now orders) (now chains) sent ⌝ }
+    ensures { λ _. ⌜ ExcusesStep r (now (orders .entry)) sent (now (orders .exit)) (now (chains .exit)) sent ⌝ }
 {
     let row = r.row;
     let bid = row[2];
     let offer = row[5];
     let mut last = quotes::row_of(rows::index(row[0]), rows::index(row[1]));
-    let mut i = rows::index(ch[last]);
+    let mut i = rows::index(chains[last]);
     while 0 < i {
         let m = i - 1;
-        let next = ch[SentOrder::MOST + m];
+        let next = chains[Chain::HEADS + m];
         i = rows::index(next);
-        if outlives(t, m, bid, offer) {
-            last = SentOrder::MOST + m;
+        if outlives(orders, m, bid, offer) {
+            last = Chain::HEADS + m;
             continue;
         }
-        t[m * 8 + Excuse::STANDS] = 0;
-        ch[last] = next;
+        orders[m * 8 + Excuse::STANDS] = 0;
+        chains[last] = next;
     }
 }
 
 // One record of any kind: a sent order, a response or a quote; the others change nothing here.
-pub fn keep_excuses(t: &mut [u32; 2048], ch: &mut [u32; 512], n: usize, r: Rec) -> usize
-    requires { ⌜ Placed r n ⌝ }
-    requires { ⌜ Chains (now t) (now ch) n ⌝ }
-    ensures { λ m. ⌜ ExcusesStep r (now (t .entry)) n (now (t .exit)) (now (ch .exit)) m ⌝ }
+pub fn keep_excuses(
+    orders: &mut [u32; Orders::WORDS],
+    chains: &mut [u32; Chain::WORDS],
+    sent: usize,
+    r: Rec,
+) -> usize
+    requires { ⌜ FitsOrders r sent ⌝ }
+    requires { ⌜ Chains (now orders) (now chains) sent ⌝ }
+    ensures { λ m. ⌜ ExcusesStep r (now (orders .entry)) sent (now (orders .exit)) (now (chains .exit)) m ⌝ }
 {
     if r.kind == Rec::QUOTE {
-        quoted(t, ch, n, r);
-        return n;
+        quoted(orders, chains, sent, r);
+        return sent;
     }
     if r.kind == Rec::SENT {
-        return sent(t, ch, n, r);
+        return keep_sent(orders, chains, sent, r);
     }
     if r.kind == Rec::RESPONSE {
-        answered(t, n, r);
-        return n;
+        answered(orders, sent, r);
+        return sent;
     }
-    n
+    sent
 }
 
 // "more than 20,000 ms before the trade", and the excuse stands
-fn still_excuses(t: &[u32; 2048], m: usize, side: u32, time: u32) -> bool
-    requires { ⌜ m < 256 ⌝ }
-    ensures { λ r. ⌜ r ≡ excusing (getD (now (t .entry)) (m * 8 + 3) 0) (getD (now (t .entry)) (m * 8 + 6) 0) (getD (now (t .entry)) (m * 8 + 7) 0) side time ⌝ }
+fn still_excuses(orders: &[u32; Orders::WORDS], m: usize, side: u32, time: u32) -> bool
+    requires { ⌜ m < mostSentOrders ⌝ }
+    ensures { λ r. ⌜ r ≡ excusing (getD (now (orders .entry)) (m * 8 + 3) 0) (getD (now (orders .entry)) (m * 8 + 6) 0) (getD (now (orders .entry)) (m * 8 + 7) 0) side time ⌝ }
 {
-    if t[m * 8 + Excuse::SIDE] != side {
+    if orders[m * 8 + Excuse::SIDE] != side {
         return false;
     }
-    if t[m * 8 + Excuse::STANDS] != 1 {
+    if orders[m * 8 + Excuse::STANDS] != 1 {
         return false;
     }
-    rows::wide(t[m * 8 + Excuse::TIME]) + Excuse::WAIT < rows::wide(time)
+    rows::wide(orders[m * 8 + Excuse::TIME]) + Excuse::WAIT < rows::wide(time)
 }
 
 // "home had sent the sender an order in the series (sell for a bid, buy for an offer) more than 20,000 ms before the trade, and
 // up to the trade it was neither filled in full nor followed by a quote .. worse than its price or absent on that side": one above
 // the number of the newest such order, or 0 where there is none.
 pub fn excuser(
-    t: &[u32; 2048],
-    ch: &[u32; 512],
-    n: usize,
-    x: usize,
-    s: usize,
+    orders: &[u32; Orders::WORDS],
+    chains: &[u32; Chain::WORDS],
+    sent: usize,
+    exchange: usize,
+    series: usize,
     side: u32,
     time: u32,
 ) -> u32
-    requires { ⌜ Within x s ⌝ }
-    requires { ⌜ Chains (now t) (now ch) n ⌝ }
-    ensures { λ r. ⌜ ExcuserIs (now (t .entry)) n x s side time r ⌝ }
+    requires { ⌜ Within exchange series ⌝ }
+    requires { ⌜ Chains (now orders) (now chains) sent ⌝ }
+    ensures { λ r. ⌜ ExcuserIs (now (orders .entry)) sent exchange series side time r ⌝ }
 {
-    let mut i = rows::index(ch[quotes::row_of(x, s)]);
+    let mut i = rows::index(chains[quotes::row_of(exchange, series)]);
     while 0 < i {
-        if still_excuses(t, i - 1, side, time) {
-            return number(i);
+        if still_excuses(orders, i - 1, side, time) {
+            return rows::narrow(i);
         }
-        i = rows::index(ch[SentOrder::MOST + (i - 1)]);
+        i = rows::index(chains[Chain::HEADS + (i - 1)]);
     }
     0
 }

@@ -8,7 +8,7 @@ use Rattle.claims.proofs.TradeLines.{trade-findable}
 use Rattle.reasons.proofs.Table.{allowed-at-most}
 use Rattle.answers.proofs.Answers.{few-trades, lines-filed, few-lines, few-rows, full-list}
 
-pub gathered-few : (lines : List ℕ) (m : ℕ) (claim customers : List ℕ) (k : ℕ) → Gathered lines m claim customers k → k ≤ mostTradeLines
-gathered-few lines m claim customers k g = g .few
+pub gathered-few : (claims : List ℕ) (m : ℕ) (claim customers : List ℕ) (k : ℕ) → Gathered claims m claim customers k → k ≤ mostTradeLines
+gathered-few claims m claim customers k g = g .few
 
 pub ruleset clerk-laws = (few-trades, lines-filed, few-lines, few-rows, full-list, trade-findable, gathered-few, allowed-at-most)

@@ -10,6 +10,8 @@ use claims::Line;
 use rows::Refusal;
 use rows::TradeLines;
 use said::Said;
+use trades::Shown;
+use trades::Trades;
 
 // Whose sheet it is; how many of its lines could be read, and the place where that ended; the check's refusal, 0 where it was accepted, and its place.
 pub struct Sheet {
@@ -55,7 +57,7 @@ fn say_three(own: bool, reason: u32, filled: u32, cancelled: u32) {
 }
 
 // Where less is due to the trade than is claimed, and the order has a part in it (shared), another sheet may be as good as our own.
-fn say_line(said: &[u32; 1536], sheet: Sheet, i: usize, shared: bool) -> bool
+fn say_line(said: &[u32; Said::WORDS], sheet: Sheet, i: usize, shared: bool) -> bool
     requires { ⌜ i < mostSatisfactionOrders ⌝ }
 {
     say_whose(sheet.own);
@@ -98,7 +100,7 @@ fn say_above(filled: u32, claim: u32) {
 }
 
 // The two numbers that differ.
-fn say_line_fault(said: &[u32; 1536], order: Order, i: usize, no: u32) -> bool
+fn say_line_fault(said: &[u32; Said::WORDS], order: Order, i: usize, no: u32) -> bool
     requires { ⌜ i < mostSatisfactionOrders ⌝ }
 {
     let filled = said[i * 3 + Said::FILLED];
@@ -125,7 +127,13 @@ fn is_line_fault(no: u32) -> bool {
 }
 
 // The line of one order, and what is wrong with it. Says whether it could be written.
-pub fn tell_line(said: &[u32; 1536], order: Order, i: usize, sheet: Sheet, shared: bool) -> bool
+pub fn tell_line(
+    said: &[u32; Said::WORDS],
+    order: Order,
+    i: usize,
+    sheet: Sheet,
+    shared: bool,
+) -> bool
     requires { ⌜ i < mostSatisfactionOrders ⌝ }
 {
     let written = say_line(said, sheet, i, shared);
@@ -138,9 +146,9 @@ pub fn tell_line(said: &[u32; 1536], order: Order, i: usize, sheet: Sheet, share
 }
 
 // "first extra byte"
-pub fn tell_extra(sheet: Sheet, n: usize) {
+pub fn tell_extra(sheet: Sheet, lines: usize) {
     if sheet.no == Refusal::NOT_THREE_EACH {
-        if n <= sheet.lines {
+        if lines <= sheet.lines {
             words::counted(
                 b"The sheet goes on after its last line, at byte ",
                 sheet.place,
@@ -153,17 +161,17 @@ pub fn tell_extra(sheet: Sheet, n: usize) {
 }
 
 // The sum of trade m's claims.
-pub fn claimed(lines: &[u32; Line::WORDS], m: usize) -> u32
+pub fn claimed(claims: &[u32; Line::WORDS], m: usize) -> u32
     requires { ⌜ m < mostTrades ⌝ }
 {
-    lines[Line::TRADES + m * Line::PART + Line::SUM]
+    claims[Line::TRADES + m * Line::PART + Line::SUM]
 }
 
 // "the lesser of trade size and the sum of claims; else the sum of claims"
-fn say_due(claims: u32, due: u32) {
-    words::told(b"  claims ", claims);
+fn say_due(sum: u32, due: u32) {
+    words::told(b"  claims ", sum);
     words::told(b", due ", due);
-    if due < claims {
+    if due < sum {
         words::say(
             b": the trade is larger than the customer firm size, so its size is all that is due, 6.94(a)(2)(ii)(B)",
         );
@@ -206,7 +214,7 @@ fn say_below(claim: u32) {
 
 // 26: the first line that is too far behind another, and that other.
 fn say_behind(
-    lines: &[u32; Line::WORDS],
+    claims: &[u32; Line::WORDS],
     m: usize,
     claim: &[u32; TradeLines::MOST],
     customers: &[u32; TradeLines::MOST],
@@ -221,9 +229,9 @@ fn say_behind(
     while i < k {
         let j = ahead_of(claim, customers, fill, k, i);
         if j < k {
-            say_filled(lines[part + i], fill[i], customers[i]);
+            say_filled(claims[part + i], fill[i], customers[i]);
             say_below(claim[i]);
-            say_filled(lines[part + j], fill[j], customers[j]);
+            say_filled(claims[part + j], fill[j], customers[j]);
             return;
         }
         i += 1;
@@ -239,7 +247,7 @@ fn is_trade_fault(no: u32) -> bool {
 
 // 25 and 26, where the check stopped at trade m with so many orders.
 fn say_trade_fault(
-    lines: &[u32; Line::WORDS],
+    claims: &[u32; Line::WORDS],
     m: usize,
     claim: &[u32; TradeLines::MOST],
     customers: &[u32; TradeLines::MOST],
@@ -253,7 +261,7 @@ fn say_trade_fault(
 {
     say_here(no);
     if no == Refusal::SHARE_RULE_BROKEN {
-        say_behind(lines, m, claim, customers, fill, k);
+        say_behind(claims, m, claim, customers, fill, k);
         return words::say(b"\n");
     }
     words::told(b"due ", due);
@@ -264,58 +272,58 @@ fn say_trade_fault(
 
 // What the sheet fills of trade m, and what is wrong with it. Says whether it could be written.
 fn tell_fills(
-    lines: &[u32; Line::WORDS],
-    said: &[u32; 1536],
-    n: usize,
+    claims: &[u32; Line::WORDS],
+    said: &[u32; Said::WORDS],
+    lines: usize,
     m: usize,
     due: u32,
     sheet: Sheet,
 ) -> bool
     requires { ⌜ m < mostTrades ⌝ }
-    requires { ⌜ Filing (now lines) n ⌝ }
+    requires { ⌜ Filing (now claims) lines ⌝ }
 {
     let mut claim = [0u32; TradeLines::MOST];
     let mut customers = [0u32; TradeLines::MOST];
     let mut fill = [0u32; TradeLines::MOST];
-    let k = claims::gather(lines, m, &mut claim, &mut customers);
-    checker::gather_fills(lines, n, said, m, &mut fill);
+    let k = claims::gather(claims, m, &mut claim, &mut customers);
+    checker::gather_fills(claims, lines, said, m, &mut fill);
     words::say(b"filled ");
     words::number(fairness::total(&fill, k));
     let written = words::say(b"\n");
     if is_trade_fault(sheet.no) {
         if sheet.at == m {
-            return say_trade_fault(lines, m, &claim, &customers, &fill, k, due, sheet.no);
+            return say_trade_fault(claims, m, &claim, &customers, &fill, k, due, sheet.no);
         }
     }
     written
 }
 
-// Trade m of a journal with n orders: its claims and what is due, and what the sheet fills of it. Says whether it could be written.
+// Trade m of a journal with so many orders: its claims and what is due, and what the sheet fills of it. Says whether it could be written.
 pub fn tell_trade(
-    lines: &[u32; Line::WORDS],
-    kept: &[u32; 1024],
-    snaps: &[u32; 8192],
-    said: &[u32; 1536],
-    n: usize,
+    claims: &[u32; Line::WORDS],
+    trades: &[u32; Trades::WORDS],
+    shown: &[u32; Shown::WORDS],
+    said: &[u32; Said::WORDS],
+    lines: usize,
     m: usize,
     sheet: Sheet,
 ) -> bool
     requires { ⌜ m < mostTrades ⌝ }
-    requires { ⌜ Filing (now lines) n ⌝ }
+    requires { ⌜ Filing (now claims) lines ⌝ }
 {
-    let k = claims::lines_of(lines, m);
+    let k = claims::lines_of(claims, m);
     words::counted(b"Trade ", m);
-    telling::say_contracts(order::trade_at(kept, snaps, m));
+    telling::say_contracts(order::trade_at(trades, shown, m));
     words::counted(b"; Satisfaction Orders: ", k);
     let written = words::say(b"\n");
     if k == 0 {
         return written;
     }
-    let due = claims::due_total(lines, kept, m);
-    say_due(claimed(lines, m), due);
+    let due = claims::due_total(claims, trades, m);
+    say_due(claimed(claims, m), due);
     say_whose(sheet.own);
-    if sheet.lines < n {
+    if sheet.lines < lines {
         return words::say(b"not read to its end\n");
     }
-    tell_fills(lines, said, n, m, due, sheet)
+    tell_fills(claims, said, lines, m, due, sheet)
 }

@@ -1,8 +1,8 @@
 // When home cancelled each Satisfaction Order and named the exchange that initiated its trade. The tables of the survey keep no such time, so the
 // records are read once more.
 use crate::records;
+use counted::SatisfactionOrder;
 use header::Head;
-use numbered::SatisfactionOrder;
 use rows::Rec;
 
 pub struct Cancelled;
@@ -13,7 +13,7 @@ impl Cancelled {
 }
 
 // "the Satisfaction Order's number and the exchange named". An accepted journal cancels an order at most once, and names the initiator.
-fn note(times: &mut [u32; 512], rec: Rec) {
+fn note(times: &mut [u32; SatisfactionOrder::MOST], rec: Rec) {
     if rec.kind != Rec::NAMING {
         return;
     }
@@ -24,7 +24,7 @@ fn note(times: &mut [u32; 512], rec: Rec) {
     }
 }
 
-pub fn read(journal: &[u8], start: usize, head: Head, times: &mut [u32; 512]) {
+pub fn read(journal: &[u8], start: usize, head: Head, times: &mut [u32; SatisfactionOrder::MOST]) {
     let mut at = start;
     let mut time: u32 = 0;
     while at < journal.len() {

@@ -7,15 +7,20 @@ ghost use Rattle.claims.specs.Lines.{Filing};
 use beside::Sheet;
 use cancelled::Cancelled;
 use claims::Line;
+use counted::SatisfactionOrder;
+use counted::Trade;
 use feed::Input;
 use feed::Room;
 use journal::Rewritten;
 use libc::STDERR_FILENO;
 use libc::STDOUT_FILENO;
 use list::Row;
-use numbered::Trade;
+use reasons::Reason;
 use said::Checked;
+use said::Said;
 use survey::Surveyed;
+use trades::Shown;
+use trades::Trades;
 
 mod beside;
 mod cancelled;
@@ -25,50 +30,60 @@ mod records;
 mod telling;
 mod words;
 
-// One order of n, and its line in the sheet. Says whether it could be written.
+// One order of so many, and its line in the sheet. Says whether it could be written.
 fn told_order(
-    lines: &[u32; Line::WORDS],
-    kept: &[u32; 1024],
-    snaps: &[u32; 8192],
-    said: &[u32; 1536],
-    cancelled: &[u32; 512],
-    n: usize,
+    claims: &[u32; Line::WORDS],
+    trades: &[u32; Trades::WORDS],
+    shown: &[u32; Shown::WORDS],
+    said: &[u32; Said::WORDS],
+    cancelled: &[u32; SatisfactionOrder::MOST],
+    lines: usize,
     i: usize,
     close: u32,
     sheet: Sheet,
 ) -> bool
-    requires { ⌜ (i < mostSatisfactionOrders) × Filing (now lines) n ⌝ }
+    requires { ⌜ (i < mostSatisfactionOrders) × Filing (now claims) lines ⌝ }
 {
-    let order = order::order_at(lines, cancelled, i);
+    let order = order::order_at(claims, cancelled, i);
     let m = rows::index(order.trade);
     if Trade::MOST <= m {
         return false;
     }
-    let turn = order::turn_at(lines, m, order.sender, i);
-    telling::tell(order, turn, kept, snaps, m, close);
-    let due = claims::due_total(lines, kept, m);
+    let turn = order::turn_at(claims, m, order.sender, i);
+    telling::tell(order, turn, trades, shown, m, close);
+    let due = claims::due_total(claims, trades, m);
     words::told(b"  due to all orders for the trade: ", due);
     words::say(b"\n");
-    let shared = order.reason == 0 && due < beside::claimed(lines, m);
+    let shared = order.reason == Reason::NONE && due < beside::claimed(claims, m);
     beside::tell_line(said, order, i, sheet, shared)
 }
 
 // Says whether they could be written.
 fn tell_orders(
-    lines: &[u32; Line::WORDS],
-    kept: &[u32; 1024],
-    snaps: &[u32; 8192],
-    said: &[u32; 1536],
-    cancelled: &[u32; 512],
-    n: usize,
+    claims: &[u32; Line::WORDS],
+    trades: &[u32; Trades::WORDS],
+    shown: &[u32; Shown::WORDS],
+    said: &[u32; Said::WORDS],
+    cancelled: &[u32; SatisfactionOrder::MOST],
+    lines: usize,
     close: u32,
     sheet: Sheet,
 ) -> bool
-    requires { ⌜ (n ≤ mostSatisfactionOrders) × Filing (now lines) n ⌝ }
+    requires { ⌜ (lines ≤ mostSatisfactionOrders) × Filing (now claims) lines ⌝ }
 {
     let mut i: usize = 0;
-    while i < n {
-        if !told_order(lines, kept, snaps, said, cancelled, n, i, close, sheet) {
+    while i < lines {
+        if !told_order(
+            claims,
+            trades,
+            shown,
+            said,
+            cancelled,
+            lines,
+            i,
+            close,
+            sheet,
+        ) {
             return false;
         }
         i += 1;
@@ -77,19 +92,19 @@ fn tell_orders(
 }
 
 fn tell_trades(
-    lines: &[u32; Line::WORDS],
-    kept: &[u32; 1024],
-    snaps: &[u32; 8192],
-    said: &[u32; 1536],
-    trades: usize,
-    n: usize,
+    claims: &[u32; Line::WORDS],
+    trades: &[u32; Trades::WORDS],
+    shown: &[u32; Shown::WORDS],
+    said: &[u32; Said::WORDS],
+    traded: usize,
+    lines: usize,
     sheet: Sheet,
 ) -> bool
-    requires { ⌜ (trades ≤ mostTrades) × Filing (now lines) n ⌝ }
+    requires { ⌜ (traded ≤ mostTrades) × Filing (now claims) lines ⌝ }
 {
     let mut m: usize = 0;
-    while m < trades {
-        if !beside::tell_trade(lines, kept, snaps, said, n, m, sheet) {
+    while m < traded {
+        if !beside::tell_trade(claims, trades, shown, said, lines, m, sheet) {
             return false;
         }
         m += 1;
@@ -99,45 +114,45 @@ fn tell_trades(
 
 // Every order, then every trade, each with what the sheet says beside it.
 fn tell(
-    lines: &[u32; Line::WORDS],
-    kept: &[u32; 1024],
-    snaps: &[u32; 8192],
-    said: &[u32; 1536],
-    cancelled: &[u32; 512],
-    trades: usize,
-    n: usize,
+    claims: &[u32; Line::WORDS],
+    trades: &[u32; Trades::WORDS],
+    shown: &[u32; Shown::WORDS],
+    said: &[u32; Said::WORDS],
+    cancelled: &[u32; SatisfactionOrder::MOST],
+    traded: usize,
+    lines: usize,
     close: u32,
     sheet: Sheet,
 ) -> bool
-    requires { ⌜ (trades ≤ mostTrades) × Filing (now lines) n ⌝ }
-    requires { ⌜ n ≤ mostSatisfactionOrders ⌝ }
+    requires { ⌜ (traded ≤ mostTrades) × Filing (now claims) lines ⌝ }
+    requires { ⌜ lines ≤ mostSatisfactionOrders ⌝ }
 {
-    if n == 0 {
+    if lines == 0 {
         words::say(b"no Satisfaction Order\n");
     }
-    if !tell_orders(lines, kept, snaps, said, cancelled, n, close, sheet) {
+    if !tell_orders(claims, trades, shown, said, cancelled, lines, close, sheet) {
         return false;
     }
-    beside::tell_extra(sheet, n);
-    tell_trades(lines, kept, snaps, said, trades, n, sheet)
+    beside::tell_extra(sheet, lines);
+    tell_trades(claims, trades, shown, said, traded, lines, sheet)
 }
 
 // The journal with a sheet of its own or one that was handed in, which the check accepted (0) or refused. A refused journal has no tables.
 fn explain(journal: &[u8], sheet: &[u8], own: bool, no: u32, at: usize) {
-    let mut kept = [0u32; 1024];
-    let mut snaps = [0u32; 8192];
-    let mut lines = [0u32; Line::WORDS];
+    let mut trades = [0u32; Trades::WORDS];
+    let mut shown = [0u32; Shown::WORDS];
+    let mut claims = [0u32; Line::WORDS];
     let mut list = [0u32; Row::MOST * Row::WORDS];
     let Surveyed::Whole {
-        trades,
-        lines: n,
+        trades: traded,
+        lines,
         listed,
-    } = survey::survey(journal, &mut kept, &mut snaps, &mut lines, &mut list)
+    } = survey::survey(journal, &mut trades, &mut shown, &mut claims, &mut list)
     else {
         return;
     };
-    let mut said = [0u32; 1536];
-    let reach = said::read_lines(sheet, n, &mut said);
+    let mut said = [0u32; Said::WORDS];
+    let reach = said::read_lines(sheet, lines, &mut said);
     let told = Sheet {
         own,
         lines: reach.lines,
@@ -147,10 +162,20 @@ fn explain(journal: &[u8], sheet: &[u8], own: bool, no: u32, at: usize) {
     };
     let front = header::read_header(journal);
     let head = front.head;
-    let mut times = [Cancelled::NEVER; 512];
+    let mut times = [Cancelled::NEVER; SatisfactionOrder::MOST];
     cancelled::read(journal, front.used, head, &mut times);
     let close = head.close;
-    let written = tell(&lines, &kept, &snaps, &said, &times, trades, n, close, told)
+    let written = tell(
+        &claims,
+        &trades,
+        &shown,
+        &said,
+        &times,
+        traded,
+        lines,
+        close,
+        told,
+    )
         && received::tell(journal, front.used, head, &list, listed);
     if !written {
         os::fail(b"standard output");

@@ -1,12 +1,15 @@
 // What the journal gives of one Satisfaction Order, out of the tables of its survey: of the order, of its trade, of its sender at the trade, and
 // of the sender's two orders where it could send again.
-ghost use Prim.Native.Nat.{_<_};
-ghost use Rattle.rules.specs.Limits.{mostTrades, mostSatisfactionOrders};
+ghost use Prim.Native.Nat.{_*_, _<_};
+ghost use Rattle.rules.specs.Limits.{mostExchanges, mostTrades, mostSatisfactionOrders};
 ghost use Rattle.claims.specs.Lines.{Findable};
 use claims::Line;
+use counted::SatisfactionOrder;
 use limits::Exchanges;
 use trades::Kept;
+use trades::Shown;
 use trades::Snap;
+use trades::Trades;
 
 pub struct Order {
     pub number: usize,
@@ -22,19 +25,23 @@ pub struct Order {
     pub cancelled: u32,
 }
 
-pub fn order_at(lines: &[u32; Line::WORDS], cancelled: &[u32; 512], i: usize) -> Order
+pub fn order_at(
+    claims: &[u32; Line::WORDS],
+    cancelled: &[u32; SatisfactionOrder::MOST],
+    i: usize,
+) -> Order
     requires { ⌜ i < mostSatisfactionOrders ⌝ }
 {
     Order {
         number: i,
-        trade: lines[i * 8 + Line::TRADE],
-        size: lines[i * 8 + Line::SIZE],
-        reason: lines[i * 8 + Line::REASON],
-        customers: lines[i * 8 + Line::CUSTOMERS],
-        claim: lines[i * 8 + Line::CLAIM],
-        sender: lines[i * 8 + Line::SENDER],
-        asked: lines[i * 8 + Line::ASKED],
-        time: lines[i * 8 + Line::TIME],
+        trade: claims[i * 8 + Line::TRADE],
+        size: claims[i * 8 + Line::SIZE],
+        reason: claims[i * 8 + Line::REASON],
+        customers: claims[i * 8 + Line::CUSTOMERS],
+        claim: claims[i * 8 + Line::CLAIM],
+        sender: claims[i * 8 + Line::SENDER],
+        asked: claims[i * 8 + Line::ASKED],
+        time: claims[i * 8 + Line::TIME],
         cancelled: cancelled[i],
     }
 }
@@ -51,18 +58,18 @@ pub struct Traded {
 }
 
 // The series stands in the snapshot of every exchange; the first has it.
-pub fn trade_at(kept: &[u32; 1024], snaps: &[u32; 8192], m: usize) -> Traded
+pub fn trade_at(trades: &[u32; Trades::WORDS], shown: &[u32; Shown::WORDS], m: usize) -> Traded
     requires { ⌜ m < mostTrades ⌝ }
 {
     Traded {
-        price: kept[m * 8 + Kept::PRICE],
-        size: kept[m * 8 + Kept::SIZE],
-        block: kept[m * 8 + Kept::BLOCK],
-        complex: kept[m * 8 + Kept::COMPLEX],
-        initiator: kept[m * 8 + Kept::INITIATOR],
-        report: kept[m * 8 + Kept::REPORT],
-        closing: kept[m * 8 + Kept::CLOSING],
-        series: snaps[m * 64 + Snap::SERIES],
+        price: trades[m * 8 + Kept::PRICE],
+        size: trades[m * 8 + Kept::SIZE],
+        block: trades[m * 8 + Kept::BLOCK],
+        complex: trades[m * 8 + Kept::COMPLEX],
+        initiator: trades[m * 8 + Kept::INITIATOR],
+        report: trades[m * 8 + Kept::REPORT],
+        closing: trades[m * 8 + Kept::CLOSING],
+        series: shown[m * 64 + Snap::SERIES],
     }
 }
 
@@ -75,7 +82,7 @@ pub struct There {
 
 // Where a sender stands among the exchanges, of which it is one.
 pub fn seat_of(sender: usize) -> usize
-    ensures { λ r. ⌜ r < 8 ⌝ }
+    ensures { λ r. ⌜ r < mostExchanges ⌝ }
 {
     if sender == 0 {
         return 0;
@@ -89,19 +96,19 @@ pub fn seat_of(sender: usize) -> usize
 // Where it stands at trade m, in what is kept for each trade and exchange.
 fn place_of(m: usize, sender: u32) -> usize
     requires { ⌜ m < mostTrades ⌝ }
-    ensures { λ r. ⌜ r < 1024 ⌝ }
+    ensures { λ r. ⌜ r < mostTrades * mostExchanges ⌝ }
 {
     m * 8 + seat_of(rows::index(sender))
 }
 
-pub fn there_at(snaps: &[u32; 8192], m: usize, sender: u32) -> There
+pub fn there_at(shown: &[u32; Shown::WORDS], m: usize, sender: u32) -> There
     requires { ⌜ m < mostTrades ⌝ }
 {
     let at = place_of(m, sender) * 8;
     There {
-        side: snaps[at + Snap::SIDE],
-        price: snaps[at + Snap::PRICE],
-        excuser: snaps[at + Snap::EXCUSER],
+        side: shown[at + Snap::SIDE],
+        price: shown[at + Snap::PRICE],
+        excuser: shown[at + Snap::EXCUSER],
     }
 }
 
@@ -116,14 +123,14 @@ pub enum Turn {
 }
 
 // The sender's first order for trade m, where `i` is one of them.
-fn first_of(lines: &[u32; Line::WORDS], m: usize, sender: u32, i: usize) -> usize
-    requires { ⌜ Findable (now lines) m ⌝ }
+fn first_of(claims: &[u32; Line::WORDS], m: usize, sender: u32, i: usize) -> usize
+    requires { ⌜ Findable (now claims) m ⌝ }
 {
-    let k = claims::lines_of(lines, m);
+    let k = claims::lines_of(claims, m);
     let mut j: usize = 0;
     while j < k {
-        let line = claims::line_of(lines, m, j);
-        if lines[line * 8 + Line::SENDER] == sender {
+        let line = claims::line_of(claims, m, j);
+        if claims[line * 8 + Line::SENDER] == sender {
             return line;
         }
         j += 1;
@@ -132,15 +139,15 @@ fn first_of(lines: &[u32; Line::WORDS], m: usize, sender: u32, i: usize) -> usiz
 }
 
 // Of order `i`, for trade m.
-pub fn turn_at(lines: &[u32; Line::WORDS], m: usize, sender: u32, i: usize) -> Turn
-    requires { ⌜ Findable (now lines) m ⌝ }
+pub fn turn_at(claims: &[u32; Line::WORDS], m: usize, sender: u32, i: usize) -> Turn
+    requires { ⌜ Findable (now claims) m ⌝ }
 {
-    let again = lines[Line::AGAIN + place_of(m, sender)];
+    let again = claims[Line::AGAIN + place_of(m, sender)];
     if again == 0 {
         return Turn::Only;
     }
     let cancelled = again - 1;
-    let first = first_of(lines, m, sender, i);
+    let first = first_of(claims, m, sender, i);
     if first == i {
         return Turn::First { cancelled };
     }

@@ -11,8 +11,10 @@ use crate::order::Turn;
 use crate::words;
 use prices::Side;
 use reasons::Claim;
-use reasons::Naming;
+use reasons::Reason;
 use reasons::Receipt;
+use trades::Shown;
+use trades::Trades;
 
 fn say_order(order: Order) {
     words::counted(b"Satisfaction Order ", order.number);
@@ -164,7 +166,7 @@ fn say_outcome(in_time: bool, reason: u32) {
         return;
     }
     words::say(b": in time");
-    if reason != Naming::REASON {
+    if reason != Reason::INITIATOR_NAMED {
         words::told(b", but reason ", reason);
         words::say(b" is judged before it and stands");
     }
@@ -229,7 +231,7 @@ fn say_least(size: u32, customers: u32, traded: u32) {
 // "0 for a reason other than 0; else the least of order size, customer contracts and trade size"
 fn say_claim(order: Order, traded: u32) {
     words::told(b"  claim ", order.claim);
-    if order.reason != 0 {
+    if order.reason != Reason::NONE {
         words::say(b": there is a reason\n");
         return;
     }
@@ -242,11 +244,18 @@ fn say_claim(order: Order, traded: u32) {
 }
 
 // All of it, for an order of trade m in a journal with this close.
-pub fn tell(order: Order, turn: Turn, kept: &[u32; 1024], snaps: &[u32; 8192], m: usize, close: u32)
+pub fn tell(
+    order: Order,
+    turn: Turn,
+    trades: &[u32; Trades::WORDS],
+    shown: &[u32; Shown::WORDS],
+    m: usize,
+    close: u32,
+)
     requires { ⌜ m < mostTrades ⌝ }
 {
-    let traded = order::trade_at(kept, snaps, m);
-    let there = order::there_at(snaps, m, order.sender);
+    let traded = order::trade_at(trades, shown, m);
+    let there = order::there_at(shown, m, order.sender);
     say_order(order);
     say_trade(traded);
     say_through(there, order.customers);

@@ -1,6 +1,6 @@
 // The words, and the rule behind each reason: paragraphs of source document 000; what the paper marks *desk* is said to be the desk's reading.
 use libc::STDOUT_FILENO;
-use reasons::Naming;
+use reasons::Reason;
 
 pub fn say(text: &[u8]) -> bool {
     io::write_all(STDOUT_FILENO, text)
@@ -48,9 +48,11 @@ pub fn clock(time: u64) {
 // Rule 6.94(b), "Exceptions to Trade-Through Liability": reasons 2 to 9 are its paragraphs. Statuses are 3 to 6.
 fn say_status(why: u32) -> bool {
     match why {
-        3 => say(b"the sender was non-firm, 6.94(b)(3)"),
-        4 => say(b"home was non-firm and no other exchange initiated the trade, 6.94(b)(4)"),
-        5 => say(b"the sender was in rotation, 6.94(b)(5)"),
+        Reason::SENDER_NON_FIRM => say(b"the sender was non-firm, 6.94(b)(3)"),
+        Reason::HOME_NON_FIRM => say(
+            b"home was non-firm and no other exchange initiated the trade, 6.94(b)(4)",
+        ),
+        Reason::SENDER_IN_ROTATION => say(b"the sender was in rotation, 6.94(b)(5)"),
         _ => say(b"home was in rotation, 6.94(b)(6)"),
     }
 }
@@ -67,10 +69,10 @@ fn say_excuse(excuser: u32) -> bool {
 
 fn say_exception(why: u32, excuser: u32) -> bool {
     match why {
-        2 => say_excuse(excuser),
-        7 => say(b"the trade was complex, 6.94(b)(7)"),
-        8 => say(b"it came too late, 6.94(b)(8)"),
-        9 => say(b"it came too late, 6.94(b)(9)"),
+        Reason::HAD_SENT => say_excuse(excuser),
+        Reason::COMPLEX => say(b"the trade was complex, 6.94(b)(7)"),
+        Reason::LATE => say(b"it came too late, 6.94(b)(8)"),
+        Reason::LATE_WITH_INITIATOR => say(b"it came too late, 6.94(b)(9)"),
         _ => say_status(why),
     }
 }
@@ -87,8 +89,10 @@ fn say_named(initiator: u32) -> bool {
 
 fn say_price_reason(why: u32) -> bool {
     match why {
-        11 => say(b"its price is the trade's, and the trade is no block, 6.94(a)(2)(i)"),
-        12 => say(b"its price is not the one required, 6.92(a)(18)"),
+        Reason::PRICED_AS_BLOCK => say(
+            b"its price is the trade's, and the trade is no block, 6.94(a)(2)(i)",
+        ),
+        Reason::NOT_THE_PRICE_REQUIRED => say(b"its price is not the one required, 6.92(a)(18)"),
         _ => say(b"no customer contracts in the bid or offer traded through, 6.94(a)(2)(ii)"),
     }
 }
@@ -98,11 +102,13 @@ pub fn reason(why: u32, excuser: u32, initiator: u32) {
     told(b"  reason ", why);
     say(b": ");
     match why {
-        0 => say(b"none, to be filled, 6.94(a)(2)"),
-        10 => say(b"the sender was not traded through, and so is no aggrieved party, 6.92(a)(1)"),
-        11..=13 => say_price_reason(why),
-        Naming::REASON => say_named(initiator),
-        15 => say(b"it was sent again too late, 6.94(a)(2)(i)"),
+        Reason::NONE => say(b"none, to be filled, 6.94(a)(2)"),
+        Reason::NOT_TRADED_THROUGH => say(
+            b"the sender was not traded through, and so is no aggrieved party, 6.92(a)(1)",
+        ),
+        Reason::PRICED_AS_BLOCK..=Reason::NO_CUSTOMERS => say_price_reason(why),
+        Reason::INITIATOR_NAMED => say_named(initiator),
+        Reason::LATE_AGAIN => say(b"it was sent again too late, 6.94(a)(2)(i)"),
         _ => say_exception(why, excuser),
     }
     ;

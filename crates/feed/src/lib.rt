@@ -1,11 +1,11 @@
 // What the programs share: lent buffers filled from standard input or a named file, answers sent, refusals said. An answer goes to standard output, whatever is no answer to standard error.
 ghost use lib.ListN.{length};
 ghost use Rattle.feed.specs.Filled.{Filled};
+use counted::SatisfactionOrder;
 use journal::Rewritten;
 use libc::STDIN_FILENO;
 use libc::STDOUT_FILENO;
 use number::Number;
-use numbered::SatisfactionOrder;
 use text::Written;
 use walk::Journal;
 

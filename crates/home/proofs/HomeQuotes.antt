@@ -9,6 +9,7 @@ use lib.Dec.{eqb}
 use lib.ListN.{getD}
 use borrow.Author.Tests.{eqb-true, eqb-false, eq-eqb, ne-eqb}
 use Rattle.rules.specs.Basics.{if_then_else_, firstOf, keep}
+use Rattle.rules.specs.Limits.{mostExchanges}
 use Rattle.rules.specs.Header.{Header}
 use Rattle.rules.specs.Record.{Quote}
 use Rattle.rules.specs.Journal.{History}
@@ -17,7 +18,7 @@ use Rattle.rules.specs.Verdicts.{Verdict, verdict, crosses, locks, lowestNamed,
 use Rattle.rules.proofs.Tests.{byTest, keep-more}
 use Rattle.rows.specs.Rows.{word}
 use Rattle.rows.specs.declared.Rec.{Rec}
-use Rattle.quotes.specs.Tables.{Quoted}
+use Rattle.quotes.specs.Tables.{manySeries, Quoted}
 use Rattle.prices.specs.Prices.{aboveOf, equalOf, bidOf, offerOf, PlaceIs}
 use Rattle.home.specs.Home.{homesOf, SameQuote, sideOf, sideAt, againstAs, foundAs, FoundIs, AgainstIs}
 use Rattle.home.specs.declared.HomeQuote.{HomeQuote}
@@ -28,36 +29,36 @@ use Rattle.prices.proofs.BestPrices.{others, bid-shown, offer-shown}
 
 -- ---- the tests of one exchange
 
-pub home-test : (r : Rec) (home x : ℕ) → (x ≡ word r 0) × (x < 4294967296) → eqb x home ≡ homesOf r home
+pub home-test : (r : Rec) (home exchange : ℕ) → (exchange ≡ word r 0) × (exchange < 4294967296) → eqb exchange home ≡ homesOf r home
 unfolding homesOf
-home-test r home x ex = rw (ex .0)
+home-test r home exchange ex = rw (ex .0)
 
-module _ (kind b o tb to : ℕ) where
-  module _ (two : kind ≡ 2) (t : Bool) (et : t ≡ aboveOf b to) where
-    pub crossed-bid : t ≡ true → 1 ≡ sideOf kind b o tb to
+module _ (kind bid offer theirBid theirOffer : ℕ) where
+  module _ (two : kind ≡ 2) (t : Bool) (et : t ≡ aboveOf bid theirOffer) where
+    pub crossed-bid : t ≡ true → 1 ≡ sideOf kind bid offer theirBid theirOffer
     unfolding sideOf firstOf aboveOf
     crossed-bid z = rw (eq-eqb _ _ two, ← et, z)
 
-    module _ (z : t ≡ false) (u : Bool) (eu : u ≡ aboveOf tb o) where
-      pub crossed-offer : u ≡ true → 2 ≡ sideOf kind b o tb to
+    module _ (z : t ≡ false) (u : Bool) (eu : u ≡ aboveOf theirBid offer) where
+      pub crossed-offer : u ≡ true → 2 ≡ sideOf kind bid offer theirBid theirOffer
       unfolding sideOf firstOf aboveOf
       crossed-offer y = rw (eq-eqb _ _ two, ← et, z, ← eu, y)
 
-      pub crossed-not : u ≡ false → 0 ≡ sideOf kind b o tb to
+      pub crossed-not : u ≡ false → 0 ≡ sideOf kind bid offer theirBid theirOffer
       unfolding sideOf firstOf aboveOf
       crossed-not y = rw (eq-eqb _ _ two, ← et, z, ← eu, y)
 
-  module _ (one : kind ≡ 2 → ⊥) (t : Bool) (et : t ≡ equalOf b to) where
-    pub locked-bid : t ≡ true → 1 ≡ sideOf kind b o tb to
+  module _ (one : kind ≡ 2 → ⊥) (t : Bool) (et : t ≡ equalOf bid theirOffer) where
+    pub locked-bid : t ≡ true → 1 ≡ sideOf kind bid offer theirBid theirOffer
     unfolding sideOf firstOf equalOf
     locked-bid z = rw (ne-eqb _ _ one, ← et, z)
 
-    module _ (z : t ≡ false) (u : Bool) (eu : u ≡ equalOf o tb) where
-      pub locked-offer : u ≡ true → 2 ≡ sideOf kind b o tb to
+    module _ (z : t ≡ false) (u : Bool) (eu : u ≡ equalOf offer theirBid) where
+      pub locked-offer : u ≡ true → 2 ≡ sideOf kind bid offer theirBid theirOffer
       unfolding sideOf firstOf equalOf
       locked-offer y = rw (ne-eqb _ _ one, ← et, z, ← eu, y)
 
-      pub locked-not : u ≡ false → 0 ≡ sideOf kind b o tb to
+      pub locked-not : u ≡ false → 0 ≡ sideOf kind bid offer theirBid theirOffer
       unfolding sideOf firstOf equalOf
       locked-not y = rw (ne-eqb _ _ one, ← et, z, ← eu, y)
 
@@ -87,90 +88,90 @@ module _ (k : ℕ) (f : ℕ → ℕ) (home : ℕ) where
 
 -- ---- the loop: no exchange up to y is named
 
-pub record Passed (q : List ℕ) (n home kind : ℕ) (v : HomeQuote) (y : ℕ) : Type 0 where
-  pub few : y ≤ n
-  pub so : (past : History) (w : Verdict) → Quoted past q → lowestNamed kind (sideAt kind v past) (keep (others home) (upTo y)) w ≡ w
+pub record Passed (quotes : List ℕ) (exchanges home kind : ℕ) (quote : HomeQuote) (y : ℕ) : Type 0 where
+  pub few : y ≤ exchanges
+  pub so : (past : History) (w : Verdict) → Quoted past quotes → lowestNamed kind (sideAt kind quote past) (keep (others home) (upTo y)) w ≡ w
 
-module _ (q : List ℕ) (n home kind : ℕ) (v : HomeQuote) where
-  pub passed-none : Passed q n home kind v 0
+module _ (quotes : List ℕ) (exchanges home kind : ℕ) (quote : HomeQuote) where
+  pub passed-none : Passed quotes exchanges home kind quote 0
   unfolding upTo keep lowestNamed
   passed-none = record { few = omega arith; so = λ past w held. refl }
 
-  module _ (y : ℕ) (a : Passed q n home kind v y) where
-    pub passed-all : n ≤ y → FoundIs q n home kind v Nowhere
+  module _ (y : ℕ) (a : Passed quotes exchanges home kind quote y) where
+    pub passed-all : exchanges ≤ y → FoundIs quotes exchanges home kind quote Nowhere
     unfolding foundAs away everyone
     passed-all l =
         record {
           so = λ h past w en eh held. let z : h .exchanges ≡ y = omega (arith, a .few) in rw (z, eh) (sym (a .so past w held));
         }
 
-    module _ (l : y < n) where
-      pub passed-home : y + 1 ≡ home → Passed q n home kind v (y + 1)
+    module _ (l : y < exchanges) where
+      pub passed-home : y + 1 ≡ home → Passed quotes exchanges home kind quote (y + 1)
       unfolding lowestNamed
       passed-home e =
           record {
             few = omega arith;
             so = λ past w held. let z : suc y ≡ home = omega arith in
-                rw (add-one y) (upto-more kind (sideAt kind v past) home y w ∙ rw (eq-eqb _ _ z) (a .so past w held));
+                rw (add-one y) (upto-more kind (sideAt kind quote past) home y w ∙ rw (eq-eqb _ _ z) (a .so past w held));
           }
 
-      module _ (pre : (n ≤ 8) × (v .series < 32)) (ne : y + 1 ≡ home → ⊥) (k : ℕ) (p : PlaceIs y (v .series) k)
-          (side : ℕ) (es : side ≡ sideOf kind (v .bid) (v .offer) (getD q (k + 2) 0) (getD q (k + 5) 0)) where
-        side-is : (past : History) → Quoted past q → side ≡ sideAt kind v past (suc y)
+      module _ (pre : (exchanges ≤ mostExchanges) × (quote .series < manySeries)) (ne : y + 1 ≡ home → ⊥) (k : ℕ) (p : PlaceIs y (quote .series) k)
+          (side : ℕ) (es : side ≡ sideOf kind (quote .bid) (quote .offer) (getD quotes (k + 2) 0) (getD quotes (k + 5) 0)) where
+        side-is : (past : History) → Quoted past quotes → side ≡ sideAt kind quote past (suc y)
         unfolding sideAt bidOf offerOf
         side-is past held =
-            rw (← bid-shown q past held y (v .series) k (omega arith) (pre .1) p, ← offer-shown q past held y (v .series) k (omega arith) (pre .1) p) es
+            rw (← bid-shown quotes past held y (quote .series) k (omega arith) (pre .1) p, ← offer-shown quotes past held y (quote .series) k (omega arith) (pre .1) p) es
 
         far : suc y ≡ home → ⊥
         far = omega arith
 
-        pub passed-clear : side ≡ 0 → Passed q n home kind v (y + 1)
+        pub passed-clear : side ≡ 0 → Passed quotes exchanges home kind quote (y + 1)
         unfolding lowestNamed
         passed-clear e =
             record {
               few = omega arith;
               so = λ past w held.
-                  rw (add-one y) (upto-more kind (sideAt kind v past) home y w ∙ rw (ne-eqb _ _ far, ← side-is past held, eq-eqb _ _ e) (a .so past w held));
+                  rw (add-one y) (upto-more kind (sideAt kind quote past) home y w ∙ rw (ne-eqb _ _ far, ← side-is past held, eq-eqb _ _ e) (a .so past w held));
             }
 
-        pub passed-named : (side ≡ 0 → ⊥) → FoundIs q n home kind v (At (y + 1) side)
+        pub passed-named : (side ≡ 0 → ⊥) → FoundIs quotes exchanges home kind quote (At (y + 1) side)
         unfolding foundAs away everyone lowestNamed
         passed-named e =
             record {
               so = λ h past w en eh held.
-                  let hit : (w : Verdict) → upto kind (sideAt kind v past) home (suc y) w ≡ verdict kind (suc y) side =
-                  λ w. upto-more kind (sideAt kind v past) home y w ∙ rw (ne-eqb _ _ far, ← side-is past held, ne-eqb _ _ e) (a .so past _ held) in
-                  rw (eh, en, add-one y) (sym (upto-settled kind (sideAt kind v past) home _ n (suc y) (omega arith) hit w));
+                  let hit : (w : Verdict) → upto kind (sideAt kind quote past) home (suc y) w ≡ verdict kind (suc y) side =
+                  λ w. upto-more kind (sideAt kind quote past) home y w ∙ rw (ne-eqb _ _ far, ← side-is past held, ne-eqb _ _ e) (a .so past _ held) in
+                  rw (eh, en, add-one y) (sym (upto-settled kind (sideAt kind quote past) home _ exchanges (suc y) (omega arith) hit w));
             }
 
 -- ---- the verdict
 
 -- the paper's verdict, as two searches over the code's quote
-quote-is : (h : Header) (past : History) (v : HomeQuote) (k : Quote) → SameQuote v k
-    → homeQuote h past k ≡ lowestNamed 2 (sideAt 2 v past) (away h) (lowestNamed 1 (sideAt 1 v past) (away h) (verdict 0 0 0))
+quote-is : (h : Header) (past : History) (quote : HomeQuote) (k : Quote) → SameQuote quote k
+    → homeQuote h past k ≡ lowestNamed 2 (sideAt 2 quote past) (away h) (lowestNamed 1 (sideAt 1 quote past) (away h) (verdict 0 0 0))
 unfolding homeQuote crosses locks sideAt sideOf
-quote-is h past v k same = simp (same .series, same .bid, same .offer)
+quote-is h past quote k same = simp (same .series, same .bid, same .offer)
 
-module _ (q : List ℕ) (n home : ℕ) (v : HomeQuote) (r : Found) (er : FoundIs q n home 2 v r) where
-  pub quote-crossed : (x side : ℕ) → r ≡ At x side → AgainstIs q n home v (Crossed x side)
+module _ (quotes : List ℕ) (exchanges home : ℕ) (quote : HomeQuote) (r : Found) (er : FoundIs quotes exchanges home 2 quote r) where
+  pub quote-crossed : (exchange side : ℕ) → r ≡ At exchange side → AgainstIs quotes exchanges home quote (Crossed exchange side)
   unfolding againstAs foundAs
-  quote-crossed x side g =
-      record { so = λ h past k en eh same held. ap (foundAs 2 _) (sym g) ∙ er .so h past _ en eh held ∙ sym (quote-is h past v k same) }
+  quote-crossed exchange side g =
+      record { so = λ h past k en eh same held. ap (foundAs 2 _) (sym g) ∙ er .so h past _ en eh held ∙ sym (quote-is h past quote k same) }
 
-  module _ (g : r ≡ Nowhere) (r2 : Found) (er2 : FoundIs q n home 1 v r2) where
+  module _ (g : r ≡ Nowhere) (r2 : Found) (er2 : FoundIs quotes exchanges home 1 quote r2) where
     -- nothing crossed: the verdict is that of the second search
-    second : (h : Header) (past : History) (k : Quote) → h .exchanges ≡ n → h .home ≡ home → SameQuote v k → Quoted past q
+    second : (h : Header) (past : History) (k : Quote) → h .exchanges ≡ exchanges → h .home ≡ home → SameQuote quote k → Quoted past quotes
         → foundAs 1 (verdict 0 0 0) r2 ≡ homeQuote h past k
     unfolding foundAs
     second h past k en eh same held =
-        er2 .so h past (verdict 0 0 0) en eh held ∙ ap (foundAs 2 _) (sym g) ∙ er .so h past _ en eh held ∙ sym (quote-is h past v k same)
+        er2 .so h past (verdict 0 0 0) en eh held ∙ ap (foundAs 2 _) (sym g) ∙ er .so h past _ en eh held ∙ sym (quote-is h past quote k same)
 
-    pub quote-locked : (x side : ℕ) → r2 ≡ At x side → AgainstIs q n home v (Locked x side)
+    pub quote-locked : (exchange side : ℕ) → r2 ≡ At exchange side → AgainstIs quotes exchanges home quote (Locked exchange side)
     unfolding againstAs foundAs
-    quote-locked x side g2 =
+    quote-locked exchange side g2 =
         record { so = λ h past k en eh same held. ap (foundAs 1 (verdict 0 0 0)) (sym g2) ∙ second h past k en eh same held }
 
-    pub quote-clear : r2 ≡ Nowhere → AgainstIs q n home v Clear
+    pub quote-clear : r2 ≡ Nowhere → AgainstIs quotes exchanges home quote Clear
     unfolding againstAs foundAs
     quote-clear g2 =
         record { so = λ h past k en eh same held. ap (foundAs 1 (verdict 0 0 0)) (sym g2) ∙ second h past k en eh same held }

@@ -24,16 +24,16 @@ use Rattle.home.specs.declared.Found.the-variants.{At, Nowhere}
 unfoldable pub homesOf : Rec → ℕ → Bool
 homesOf r home = word r 0 == home
 
-pub record QuoteIs (r : Rec) (v : HomeQuote) : Type 0 where
-  pub series : v .series ≡ word r 1
-  pub bid : v .bid ≡ word r 2
-  pub offer : v .offer ≡ word r 5
+pub record QuoteIs (r : Rec) (quote : HomeQuote) : Type 0 where
+  pub series : quote .series ≡ word r 1
+  pub bid : quote .bid ≡ word r 2
+  pub offer : quote .offer ≡ word r 5
 
 -- the paper's quote has these numbers
-pub record SameQuote (v : HomeQuote) (k : Quote) : Type 0 where
-  pub series : k .series ≡ v .series
-  pub bid : k .bid ≡ v .bid
-  pub offer : k .offer ≡ v .offer
+pub record SameQuote (quote : HomeQuote) (k : Quote) : Type 0 where
+  pub series : k .series ≡ quote .series
+  pub bid : k .bid ≡ quote .bid
+  pub offer : k .offer ≡ quote .offer
 
 -- ---- the side of a quote at which it crosses (verdict 2) or locks (any other) another's prices
 
@@ -43,27 +43,27 @@ sideOf kind bid offer theirBid theirOffer =
     else firstOf (theBid when bid equals theirOffer ¦ theOffer when offer equals theirBid ¦ [])
 
 unfoldable pub sideAt : ℕ → HomeQuote → History → ℕ → ℕ
-sideAt kind v past x =
-    let theirs = standing x (v .series) past in
-    sideOf kind (v .bid) (v .offer) (theirs .bid) (theirs .offer)
+sideAt kind quote past exchange =
+    let theirs = standing exchange (quote .series) past in
+    sideOf kind (quote .bid) (quote .offer) (theirs .bid) (theirs .offer)
 
 -- ---- the answers
 
 -- Q: "0/1/2 clear, locked, crossed; exchange or 0; side, 1 home's bid, 2 home's offer, or 0"
 unfoldable pub againstAs : Against → Verdict
 againstAs Clear = verdict 0 0 neither
-againstAs (Locked x side) = verdict 1 x side
-againstAs (Crossed x side) = verdict 2 x side
+againstAs (Locked exchange side) = verdict 1 exchange side
+againstAs (Crossed exchange side) = verdict 2 exchange side
 
 -- what a search for a side answers, as a verdict of a kind, or what stands instead
 unfoldable pub foundAs : ℕ → Verdict → Found → Verdict
 foundAs kind otherwise Nowhere = otherwise
-foundAs kind otherwise (At x side) = verdict kind x side
+foundAs kind otherwise (At exchange side) = verdict kind exchange side
 
-pub record FoundIs (q : List ℕ) (n home kind : ℕ) (v : HomeQuote) (r : Found) : Type 0 where
-  pub so : (h : Header) (past : History) (otherwise : Verdict) → h .exchanges ≡ n → h .home ≡ home → Quoted past q
-      → foundAs kind otherwise r ≡ lowestNamed kind (sideAt kind v past) (away h) otherwise
+pub record FoundIs (quotes : List ℕ) (exchanges home kind : ℕ) (quote : HomeQuote) (r : Found) : Type 0 where
+  pub so : (h : Header) (past : History) (otherwise : Verdict) → h .exchanges ≡ exchanges → h .home ≡ home → Quoted past quotes
+      → foundAs kind otherwise r ≡ lowestNamed kind (sideAt kind quote past) (away h) otherwise
 
-pub record AgainstIs (q : List ℕ) (n home : ℕ) (v : HomeQuote) (r : Against) : Type 0 where
-  pub so : (h : Header) (past : History) (k : Quote) → h .exchanges ≡ n → h .home ≡ home → SameQuote v k → Quoted past q
+pub record AgainstIs (quotes : List ℕ) (exchanges home : ℕ) (quote : HomeQuote) (r : Against) : Type 0 where
+  pub so : (h : Header) (past : History) (k : Quote) → h .exchanges ≡ exchanges → h .home ≡ home → SameQuote quote k → Quoted past quotes
       → againstAs r ≡ homeQuote h past k

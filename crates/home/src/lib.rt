@@ -1,9 +1,12 @@
 // The verdict on a home quote: crossed, locked or clear.
 ghost use mathlib.Core.Path.{_≡_};
 ghost use Prim.Native.Nat.{_≤_, _<_};
+ghost use Rattle.rules.specs.Limits.{mostExchanges};
+ghost use Rattle.quotes.specs.Tables.{manySeries};
 ghost use Rattle.home.specs.Home.{homesOf, sideOf, QuoteIs, FoundIs, AgainstIs};
 use prices::Side;
 use quotes::Quote;
+use quotes::Quotes;
 use rows::Rec;
 
 // What a home quote's verdict looks at.
@@ -42,7 +45,7 @@ pub fn is_home(r: Rec, home: usize) -> bool
 }
 
 pub fn quote_of(r: Rec) -> HomeQuote
-    ensures { λ v. ⌜ QuoteIs r v ⌝ }
+    ensures { λ quote. ⌜ QuoteIs r quote ⌝ }
 {
     let row = r.row;
     HomeQuote {
@@ -75,27 +78,33 @@ fn side_against(verdict: u32, bid: u32, offer: u32, their_bid: u32, their_offer:
 }
 
 // "the lowest exchange of that kind is named"
-fn lowest_named(q: &[u32; 2048], n: usize, home: usize, verdict: u32, v: HomeQuote) -> Found
-    requires { ⌜ (n ≤ 8) × (v .series < 32) ⌝ }
-    ensures { λ r. ⌜ FoundIs (now (q .entry)) n home verdict v r ⌝ }
+fn lowest_named(
+    quotes: &[u32; Quotes::WORDS],
+    exchanges: usize,
+    home: usize,
+    verdict: u32,
+    quote: HomeQuote,
+) -> Found
+    requires { ⌜ (exchanges ≤ mostExchanges) × (quote .series < manySeries) ⌝ }
+    ensures { λ r. ⌜ FoundIs (now (quotes .entry)) exchanges home verdict quote r ⌝ }
 {
     let mut y: usize = 0;
-    while y < n {
-        let x = y + 1;
-        if x == home {
+    while y < exchanges {
+        let exchange = y + 1;
+        if exchange == home {
             y += 1;
             continue;
         }
-        let k = prices::place(y, v.series);
+        let k = prices::place(y, quote.series);
         let side = side_against(
             verdict,
-            v.bid,
-            v.offer,
-            q[k + Quote::BID],
-            q[k + Quote::OFFER],
+            quote.bid,
+            quote.offer,
+            quotes[k + Quote::BID],
+            quotes[k + Quote::OFFER],
         );
         if side != Side::NEITHER {
-            let named = x as u32;
+            let named = exchange as u32;
             return Found::At(named, side);
         }
         y += 1;
@@ -104,17 +113,22 @@ fn lowest_named(q: &[u32; 2048], n: usize, home: usize, verdict: u32, v: HomeQuo
 }
 
 // "Crossed wins over locked"
-pub fn home_quote(q: &[u32; 2048], n: usize, home: usize, v: HomeQuote) -> Against
-    requires { ⌜ (n ≤ 8) × (v .series < 32) ⌝ }
-    ensures { λ r. ⌜ AgainstIs (now (q .entry)) n home v r ⌝ }
+pub fn home_quote(
+    quotes: &[u32; Quotes::WORDS],
+    exchanges: usize,
+    home: usize,
+    quote: HomeQuote,
+) -> Against
+    requires { ⌜ (exchanges ≤ mostExchanges) × (quote .series < manySeries) ⌝ }
+    ensures { λ r. ⌜ AgainstIs (now (quotes .entry)) exchanges home quote r ⌝ }
 {
-    let crossed = lowest_named(q, n, home, Against::CROSSED, v);
+    let crossed = lowest_named(quotes, exchanges, home, Against::CROSSED, quote);
     match crossed {
-        Found::At(x, side) => Against::Crossed(x, side),
+        Found::At(exchange, side) => Against::Crossed(exchange, side),
         Found::Nowhere => {
-            let locked = lowest_named(q, n, home, Against::LOCKED, v);
+            let locked = lowest_named(quotes, exchanges, home, Against::LOCKED, quote);
             match locked {
-                Found::At(x, side) => Against::Locked(x, side),
+                Found::At(exchange, side) => Against::Locked(exchange, side),
                 Found::Nowhere => Against::Clear,
             }
         }

@@ -36,40 +36,40 @@ listing-none h list = record { so = λ own. text-none own list; few = omega arit
 
 -- ---- a verdict
 
-module _ (list : List ℕ) (n event : ℕ) (v : Judged) where
-  pub nothing-put : v ≡ Nothing → JudgedPut list n event v list n
+module _ (list : List ℕ) (listed event : ℕ) (v : Judged) where
+  pub nothing-put : v ≡ Nothing → JudgedPut list listed event v list listed
   unfolding judgedAs flatMap
-  nothing-put e = record { so = λ own. rw e (sym (append-nil (textFrom own list n))); lines = rw e (omega arith); long = refl; more = omega arith }
+  nothing-put e = record { so = λ own. rw e (sym (append-nil (textFrom own list listed))); lines = rw e (omega arith); long = refl; more = omega arith }
 
-  module _ (a b c : ℕ) (list2 : List ℕ) (n2 : ℕ) where
+  module _ (a b c : ℕ) (list2 : List ℕ) (listed2 : ℕ) where
     letter-put : (letter : String) (what : ℕ) → judgedAs event v ≡ oneLine event letter (verdict a b c) → ascii letter ≡ what ∷ [] → what % 256 ≡ what
-        → (what == orderLetter) ≡ false → RowPut list n event what a b c list2 n2 → JudgedPut list n event v list2 n2
+        → (what == orderLetter) ≡ false → RowPut list listed event what a b c list2 listed2 → JudgedPut list listed event v list2 listed2
     letter-put letter what e is byte other p =
         record {
-          so = λ own. rw e (put-verdict list n event what a b c list2 n2 p own letter is byte other);
+          so = λ own. rw e (put-verdict list listed event what a b c list2 listed2 p own letter is byte other);
           lines = rw e (omega (arith, p .next));
           long = p .long;
           more = omega (arith, p .next);
         }
 
-    pub quote-put : v ≡ Q a b c → RowPut list n event 81 a b c list2 n2 → JudgedPut list n event v list2 n2
+    pub quote-put : v ≡ Q a b c → RowPut list listed event 81 a b c list2 listed2 → JudgedPut list listed event v list2 listed2
     unfolding judgedAs ascii
     quote-put e p = letter-put "Q" 81 (rw e) refl refl refl p
 
-    pub sent-put : v ≡ S a b c → RowPut list n event 83 a b c list2 n2 → JudgedPut list n event v list2 n2
+    pub sent-put : v ≡ S a b c → RowPut list listed event 83 a b c list2 listed2 → JudgedPut list listed event v list2 listed2
     unfolding judgedAs ascii
     sent-put e p = letter-put "S" 83 (rw e) refl refl refl p
 
-    pub received-put : v ≡ R a b c → RowPut list n event 82 a b c list2 n2 → JudgedPut list n event v list2 n2
+    pub received-put : v ≡ R a b c → RowPut list listed event 82 a b c list2 listed2 → JudgedPut list listed event v list2 listed2
     unfolding judgedAs ascii
     received-put e p = letter-put "R" 82 (rw e) refl refl refl p
 
-    pub trade-put : v ≡ T a b c → RowPut list n event 84 a b c list2 n2 → JudgedPut list n event v list2 n2
+    pub trade-put : v ≡ T a b c → RowPut list listed event 84 a b c list2 listed2 → JudgedPut list listed event v list2 listed2
     unfolding judgedAs ascii
     trade-put e p = letter-put "T" 84 (rw e) refl refl refl p
 
-pub put-length : (list : List ℕ) (n event what a b c : ℕ) (list2 : List ℕ) (n2 : ℕ) → RowPut list n event what a b c list2 n2 → length list2 ≡ length list
-put-length list n event what a b c list2 n2 p = p .long
+pub put-length : (list : List ℕ) (listed event what a b c : ℕ) (list2 : List ℕ) (listed2 : ℕ) → RowPut list listed event what a b c list2 listed2 → length list2 ≡ length list
+put-length list listed event what a b c list2 listed2 p = p .long
 
 pub ruleset judged-laws = (nothing-put, quote-put, sent-put, received-put, trade-put, put-length)
 
@@ -124,14 +124,14 @@ module _ (h : Header) (e : Event) (ranged : InRange h e) where
       quote-numbers one a = unfold numbersOf in rw a (omega arith)
 
 -- with k lines more
-few-more : (past : History) (e : Event) (n k n2 : ℕ) → n2 ≡ n + k → n * 6 ≤ numbersIn past → k * 6 ≤ numbersOf e → n2 * 6 ≤ numbersIn (e ∷ past)
+few-more : (past : History) (e : Event) (listed k listed2 : ℕ) → listed2 ≡ listed + k → listed * 6 ≤ numbersIn past → k * 6 ≤ numbersOf e → listed2 * 6 ≤ numbersIn (e ∷ past)
 unfolding numbersIn
-few-more past e n k n2 next few told = omega arith
+few-more past e listed k listed2 next few told = omega arith
 
 -- ---- a record of any kind
 
-module _ (list : List ℕ) (n : ℕ) (q st periods : List ℕ) (exchanges home : ℕ) (sizes : List ℕ) (sent trades lines event : ℕ) (r : Rec) where
-  pub no-room : length list < (n + 1) * 5 → Tidy periods → Noted list n q st periods exchanges home sizes sent trades lines event r list periods n
+module _ (list : List ℕ) (listed : ℕ) (quotes statuses periods : List ℕ) (exchanges home : ℕ) (sizes : List ℕ) (sent traded lines event : ℕ) (r : Rec) where
+  pub no-room : length list < (listed + 1) * 5 → Tidy periods → Noted list listed quotes statuses periods exchanges home sizes sent traded lines event r list periods listed
   no-room short tidy =
       record {
         so = λ h e past hd reads ranged held hs stands es et el ln ll printed listing. absurd (omega arith);
@@ -141,17 +141,17 @@ module _ (list : List ℕ) (n : ℕ) (q st periods : List ℕ) (exchanges home :
         more = omega arith;
       }
 
-  module _ (list2 : List ℕ) (n2 : ℕ) where
-    pub order-noted : r .kind ≡ satisfactionKind → Tidy periods → RowPut list n event orderLetter lines 0 0 list2 n2
-        → Noted list n q st periods exchanges home sizes sent trades lines event r list2 periods n2
+  module _ (list2 : List ℕ) (listed2 : ℕ) where
+    pub order-noted : r .kind ≡ satisfactionKind → Tidy periods → RowPut list listed event orderLetter lines 0 0 list2 listed2
+        → Noted list listed quotes statuses periods exchanges home sizes sent traded lines event r list2 periods listed2
     order-noted k tidy p =
         record {
           so = λ h e past hd reads ranged held hs stands es et el ln ll printed listing.
               record {
                 so = λ own.
-                    put-order list n event orderLetter lines 0 0 list2 n2 p own refl
+                    put-order list listed event orderLetter lines 0 0 list2 listed2 p own refl
                     ∙ rw (listing .so own, el) (sym (listed-order h own (printed own) event past e (reads .kind ∙ k)));
-                few = few-more past e n 1 n2 (p .next) (listing .few) (order-numbers h e ranged (reads .kind ∙ k));
+                few = few-more past e listed 1 listed2 (p .next) (listing .few) (order-numbers h e ranged (reads .kind ∙ k));
               };
           kept = λ h e past hd reads held hs stands ln ll.
               periods-stay h e past periods (λ z. omega (arith, z, reads .kind, k)) (λ z _. omega (arith, z, reads .kind, k)) stands;
@@ -160,8 +160,8 @@ module _ (list : List ℕ) (n : ℕ) (q st periods : List ℕ) (exchanges home :
           more = omega (arith, p .next);
         }
 
-    pub verdict-noted : (r .kind ≡ satisfactionKind → ⊥) → (v : Judged) (periods2 : List ℕ) → JudgedIs q st periods exchanges home sizes sent trades r periods2 v
-        → JudgedPut list n event v list2 n2 → Noted list n q st periods exchanges home sizes sent trades lines event r list2 periods2 n2
+    pub verdict-noted : (r .kind ≡ satisfactionKind → ⊥) → (v : Judged) (periods2 : List ℕ) → JudgedIs quotes statuses periods exchanges home sizes sent traded r periods2 v
+        → JudgedPut list listed event v list2 listed2 → Noted list listed quotes statuses periods exchanges home sizes sent traded lines event r list2 periods2 listed2
     verdict-noted ne v periods2 is p =
         record {
           so = λ h e past hd reads ranged held hs stands es et el ln ll printed listing.
@@ -171,7 +171,7 @@ module _ (list : List ℕ) (n : ℕ) (q st periods : List ℕ) (exchanges home :
                     ∙ rw (listing .so own, is .so h e past hd reads held hs stands es et event)
                     (sym (listed-other h own (printed own) event past e (λ z. ne (sym (reads .kind) ∙ z))));
                 few =
-                    few-more past e n _ n2 (p .lines ∙ rw (is .so h e past hd reads held hs stands es et event)) (listing .few)
+                    few-more past e listed _ listed2 (p .lines ∙ rw (is .so h e past hd reads held hs stands es et event)) (listing .few)
                     (judged-numbers h e ranged event past);
               };
           kept = λ h e past hd reads held hs stands ln ll. is .kept h e past hd reads held hs stands;
@@ -180,35 +180,35 @@ module _ (list : List ℕ) (n : ℕ) (q st periods : List ℕ) (exchanges home :
           more = p .more;
         }
 
-pub judged-length : (list : List ℕ) (n event : ℕ) (v : Judged) (list2 : List ℕ) (n2 : ℕ) → JudgedPut list n event v list2 n2 → length list2 ≡ length list
-judged-length list n event v list2 n2 p = p .long
+pub judged-length : (list : List ℕ) (listed event : ℕ) (v : Judged) (list2 : List ℕ) (listed2 : ℕ) → JudgedPut list listed event v list2 listed2 → length list2 ≡ length list
+judged-length list listed event v list2 listed2 p = p .long
 
 pub ruleset note-laws = (no-room, order-noted, verdict-noted, put-length, judged-length)
 
 -- ---- a quote
 
-module _ (list : List ℕ) (n : ℕ) (q periods : List ℕ) (exchanges home event : ℕ) (r : Rec) (k : r .kind ≡ quoteKind) where
+module _ (list : List ℕ) (listed : ℕ) (quotes periods : List ℕ) (exchanges home event : ℕ) (r : Rec) (k : r .kind ≡ quoteKind) where
   no-order : r .kind ≡ satisfactionKind → ⊥
   no-order z = omega (arith, z, k)
 
-  pub quote-away : (b : Bool) → b ≡ homesOf r home → not b ≡ true → Tidy periods → QuoteNoted list n q periods exchanges home event r list periods n
+  pub quote-away : (b : Bool) → b ≡ homesOf r home → not b ≡ true → Tidy periods → QuoteNoted list listed quotes periods exchanges home event r list periods listed
   quote-away b eb z tidy =
       record {
-        so = λ st sizes sent trades lines.
-            verdict-noted list n q st periods exchanges home sizes sent trades lines event r list n no-order Nothing periods
-            (away-judged q periods exchanges home r k b eb z tidy .so st sizes sent trades)
-            (nothing-put list n event Nothing refl);
+        so = λ statuses sizes sent traded lines.
+            verdict-noted list listed quotes statuses periods exchanges home sizes sent traded lines event r list listed no-order Nothing periods
+            (away-judged quotes periods exchanges home r k b eb z tidy .so statuses sizes sent traded)
+            (nothing-put list listed event Nothing refl);
       }
 
-  pub quote-no-room : length list < (n + 1) * 5 → Tidy periods → QuoteNoted list n q periods exchanges home event r list periods n
-  quote-no-room short tidy = record { so = λ st sizes sent trades lines. no-room list n q st periods exchanges home sizes sent trades lines event r short tidy }
+  pub quote-no-room : length list < (listed + 1) * 5 → Tidy periods → QuoteNoted list listed quotes periods exchanges home event r list periods listed
+  quote-no-room short tidy = record { so = λ statuses sizes sent traded lines. no-room list listed quotes statuses periods exchanges home sizes sent traded lines event r short tidy }
 
-  pub quote-noted : (v : Judged) (periods2 : List ℕ) → QuoteJudged q periods exchanges home r periods2 v → (list2 : List ℕ) (n2 : ℕ) → JudgedPut list n event v list2 n2
-      → QuoteNoted list n q periods exchanges home event r list2 periods2 n2
-  quote-noted v periods2 is list2 n2 p =
+  pub quote-noted : (v : Judged) (periods2 : List ℕ) → QuoteJudged quotes periods exchanges home r periods2 v → (list2 : List ℕ) (listed2 : ℕ) → JudgedPut list listed event v list2 listed2
+      → QuoteNoted list listed quotes periods exchanges home event r list2 periods2 listed2
+  quote-noted v periods2 is list2 listed2 p =
       record {
-        so = λ st sizes sent trades lines.
-            verdict-noted list n q st periods exchanges home sizes sent trades lines event r list2 n2 no-order v periods2 (is .so st sizes sent trades) p;
+        so = λ statuses sizes sent traded lines.
+            verdict-noted list listed quotes statuses periods exchanges home sizes sent traded lines event r list2 listed2 no-order v periods2 (is .so statuses sizes sent traded) p;
       }
 
 pub ruleset note-quote-laws = (quote-away, quote-no-room, quote-noted, it-is-home, judged-length)

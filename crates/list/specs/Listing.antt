@@ -59,16 +59,16 @@ rowText own list i =
     if letterAt list i == orderLetter then orderText (wordAt list i 0) (saidAt own (wordAt list i 2))
     else lineOf (wordAt list i 0) (letterAt list i) (wordAt list i 2) (wordAt list i 3) (wordAt list i 4)
 
--- the first n rows
+-- that many rows
 unfoldable pub textFrom : List SheetLine → List ℕ → ℕ → List ℕ
-textFrom own list n = flatMap (rowText own list) (below n)
+textFrom own list listed = flatMap (rowText own list) (below listed)
 
 -- ---- the list beside the history: whatever our own sheet will be, its rows are the lines that are printed so far
 
-pub record Listing (lines : List SheetLine → List Printed) (past : History) (list : List ℕ) (n : ℕ) : Type 0 where
-  pub so : (own : List SheetLine) → textFrom own list n ≡ flatMap printedLine (lines own)
+pub record Listing (lines : List SheetLine → List Printed) (past : History) (list : List ℕ) (listed : ℕ) : Type 0 where
+  pub so : (own : List SheetLine) → textFrom own list listed ≡ flatMap printedLine (lines own)
   -- a line is told by an event that is stored as six numbers at least
-  pub few : n * 6 ≤ numbersIn past
+  pub few : listed * 6 ≤ numbersIn past
 
 -- all lines of a day's records
 abbrev pub DayListing : DayRecords → List ℕ → ℕ → Type 0
@@ -76,36 +76,36 @@ DayListing d list n = Listing (λ own. listed (d .header) own (d .records)) (hap
 
 -- ---- one row more
 
-pub record RowPut (list : List ℕ) (n event what a b c : ℕ) (list2 : List ℕ) (n2 : ℕ) : Type 0 where
-  pub event-word : wordAt list2 n 0 ≡ event
-  pub what-word : wordAt list2 n 1 ≡ what
-  pub a-word : wordAt list2 n 2 ≡ a
-  pub b-word : wordAt list2 n 3 ≡ b
-  pub c-word : wordAt list2 n 4 ≡ c
-  pub earlier : (m k : ℕ) → m < n → k < 5 → wordAt list2 m k ≡ wordAt list m k
+pub record RowPut (list : List ℕ) (listed event what a b c : ℕ) (list2 : List ℕ) (listed2 : ℕ) : Type 0 where
+  pub event-word : wordAt list2 listed 0 ≡ event
+  pub what-word : wordAt list2 listed 1 ≡ what
+  pub a-word : wordAt list2 listed 2 ≡ a
+  pub b-word : wordAt list2 listed 3 ≡ b
+  pub c-word : wordAt list2 listed 4 ≡ c
+  pub earlier : (m k : ℕ) → m < listed → k < 5 → wordAt list2 m k ≡ wordAt list m k
   pub long : length list2 ≡ length list
-  pub next : n2 ≡ n + 1
+  pub next : listed2 ≡ listed + 1
 
-pub record JudgedPut (list : List ℕ) (n event : ℕ) (v : Judged) (list2 : List ℕ) (n2 : ℕ) : Type 0 where
-  pub so : (own : List SheetLine) → textFrom own list2 n2 ≡ textFrom own list n ++ flatMap printedLine (judgedAs event v)
-  pub lines : n2 ≡ n + length (judgedAs event v)
+pub record JudgedPut (list : List ℕ) (listed event : ℕ) (v : Judged) (list2 : List ℕ) (listed2 : ℕ) : Type 0 where
+  pub so : (own : List SheetLine) → textFrom own list2 listed2 ≡ textFrom own list listed ++ flatMap printedLine (judgedAs event v)
+  pub lines : listed2 ≡ listed + length (judgedAs event v)
   pub long : length list2 ≡ length list
-  pub more : n2 ≤ n + 1
+  pub more : listed2 ≤ listed + 1
 
 -- ---- one record, of any kind
 
-pub record Noted (list : List ℕ) (n : ℕ) (q st periods : List ℕ) (exchanges home : ℕ) (sizes : List ℕ) (sent trades lines event : ℕ) (r : Rec)
-    (list2 periods2 : List ℕ) (n2 : ℕ) : Type 0 where
-  pub so : (h : Header) (e : Event) (past : History) → Heads h exchanges home sizes → Reads e r → InRange h e → Quoted past q → Statuses past st
-      → Periods h past periods → sent ≡ count isSent past → trades ≡ count isTrade past → lines ≡ count isSatisfaction past
-      → n < mostRows → length list ≡ listWords → (printed : List SheetLine → List Printed) → Listing printed past list n
-      → Listing (λ own. printed own ++ (judged h event past e ++ settled own event past e)) (e ∷ past) list2 n2
-  pub kept : (h : Header) (e : Event) (past : History) → Heads h exchanges home sizes → Reads e r → Quoted past q → Statuses past st
-      → Periods h past periods → n < mostRows → length list ≡ listWords → Periods h (e ∷ past) periods2
+pub record Noted (list : List ℕ) (listed : ℕ) (quotes statuses periods : List ℕ) (exchanges home : ℕ) (sizes : List ℕ) (sent traded lines event : ℕ) (r : Rec)
+    (list2 periods2 : List ℕ) (listed2 : ℕ) : Type 0 where
+  pub so : (h : Header) (e : Event) (past : History) → Heads h exchanges home sizes → Reads e r → InRange h e → Quoted past quotes → Statuses past statuses
+      → Periods h past periods → sent ≡ count isSent past → traded ≡ count isTrade past → lines ≡ count isSatisfaction past
+      → listed < mostRows → length list ≡ listWords → (printed : List SheetLine → List Printed) → Listing printed past list listed
+      → Listing (λ own. printed own ++ (judged h event past e ++ settled own event past e)) (e ∷ past) list2 listed2
+  pub kept : (h : Header) (e : Event) (past : History) → Heads h exchanges home sizes → Reads e r → Quoted past quotes → Statuses past statuses
+      → Periods h past periods → listed < mostRows → length list ≡ listWords → Periods h (e ∷ past) periods2
   pub tidy : Tidy periods2
   pub long : length list2 ≡ length list
-  pub more : n2 ≤ n + 1
+  pub more : listed2 ≤ listed + 1
 
 -- a quote: nothing of statuses, sizes and counts decides
-pub record QuoteNoted (list : List ℕ) (n : ℕ) (q periods : List ℕ) (exchanges home event : ℕ) (r : Rec) (list2 periods2 : List ℕ) (n2 : ℕ) : Type 0 where
-  pub so : (st sizes : List ℕ) (sent trades lines : ℕ) → Noted list n q st periods exchanges home sizes sent trades lines event r list2 periods2 n2
+pub record QuoteNoted (list : List ℕ) (listed : ℕ) (quotes periods : List ℕ) (exchanges home event : ℕ) (r : Rec) (list2 periods2 : List ℕ) (listed2 : ℕ) : Type 0 where
+  pub so : (statuses sizes : List ℕ) (sent traded lines : ℕ) → Noted list listed quotes statuses periods exchanges home sizes sent traded lines event r list2 periods2 listed2

@@ -17,7 +17,7 @@ use Rattle.rules.specs.Verdicts.{verdict, sentOrder}
 use Rattle.rules.specs.PrintedDay.{oneLine, judged}
 use Rattle.rows.specs.Rows.{Reads, RecOk}
 use Rattle.rows.specs.declared.Rec.{Rec}
-use Rattle.quotes.specs.Tables.{Quoted, Statuses, Within}
+use Rattle.quotes.specs.Tables.{manySeries, Quoted, Statuses, Within}
 use Rattle.orders.specs.Orders.{Headed, Heads, OrderIs, sentAs, dutyAs, SentIs}
 use Rattle.orders.proofs.OrderVerdicts.{order-is, order-from, order-to, order-series}
 use Rattle.periods.specs.Periods.{Tidy, ReceivedIs, Requoted}
@@ -40,51 +40,51 @@ use Rattle.through.specs.declared.Trade.{Trade}
 
 -- ---- a verdict as a line
 
-module _ (v : Against) where
-  pub says-clear : v ≡ Clear → QuoteSays v (Q 0 0 0)
+module _ (against : Against) where
+  pub says-clear : against ≡ Clear → QuoteSays against (Q 0 0 0)
   unfolding judgedAs againstAs
-  says-clear e = record { so = λ n. rw e }
+  says-clear e = record { so = λ event. rw e }
 
-  module _ (x side : ℕ) where
-    pub says-locked : v ≡ Locked x side → QuoteSays v (Q 1 x side)
+  module _ (exchange side : ℕ) where
+    pub says-locked : against ≡ Locked exchange side → QuoteSays against (Q 1 exchange side)
     unfolding judgedAs againstAs
-    says-locked e = record { so = λ n. rw e }
+    says-locked e = record { so = λ event. rw e }
 
-    pub says-crossed : v ≡ Crossed x side → QuoteSays v (Q 2 x side)
+    pub says-crossed : against ≡ Crossed exchange side → QuoteSays against (Q 2 exchange side)
     unfolding judgedAs againstAs
-    says-crossed e = record { so = λ n. rw e }
+    says-crossed e = record { so = λ event. rw e }
 
-module _ (v : Sent) (number : ℕ) where
-  pub says-fine : v ≡ Fine → SentSays v number (S 0 number 0)
+module _ (answer : Sent) (number : ℕ) where
+  pub says-fine : answer ≡ Fine → SentSays answer number (S 0 number 0)
   unfolding judgedAs sentAs
-  says-fine e = record { so = λ n. rw e }
+  says-fine e = record { so = λ event. rw e }
 
-  pub says-not-shown : v ≡ NotShown → SentSays v number (S 1 number 0)
+  pub says-not-shown : answer ≡ NotShown → SentSays answer number (S 1 number 0)
   unfolding judgedAs sentAs
-  says-not-shown e = record { so = λ n. rw e }
+  says-not-shown e = record { so = λ event. rw e }
 
-  pub says-not-best : v ≡ NotBest → SentSays v number (S 2 number 0)
+  pub says-not-best : answer ≡ NotBest → SentSays answer number (S 2 number 0)
   unfolding judgedAs sentAs
-  says-not-best e = record { so = λ n. rw e }
+  says-not-best e = record { so = λ event. rw e }
 
-module _ (v : Duty) (x : ℕ) where
-  pub says-none : v ≡ NoDuty x → DutySays v (R 0 0 x)
+module _ (duty : Duty) (number : ℕ) where
+  pub says-none : duty ≡ NoDuty number → DutySays duty (R 0 0 number)
   unfolding judgedAs dutyAs
-  says-none e = record { so = λ n. rw e }
+  says-none e = record { so = λ event. rw e }
 
-  pub says-whole : v ≡ Whole x → DutySays v (R 1 x 0)
+  pub says-whole : duty ≡ Whole number → DutySays duty (R 1 number 0)
   unfolding judgedAs dutyAs
-  says-whole e = record { so = λ n. rw e }
+  says-whole e = record { so = λ event. rw e }
 
-  pub says-least : v ≡ AtLeast x → DutySays v (R 2 x 0)
+  pub says-least : duty ≡ AtLeast number → DutySays duty (R 2 number 0)
   unfolding judgedAs dutyAs
-  says-least e = record { so = λ n. rw e }
+  says-least e = record { so = λ event. rw e }
 
 -- ---- what the code took out of a record is what the paper names
 
 module _ (r : Rec) (e : Event) (reads : Reads e r) where
-  pub quote-is : (v : HomeQuote) → QuoteIs r v → SameQuote v (paper.quote e)
-  quote-is v is =
+  pub quote-is : (quote : HomeQuote) → QuoteIs r quote → SameQuote quote (paper.quote e)
+  quote-is quote is =
       record {
         series = sym (is .series ∙ reads .fields 1);
         bid = sym (is .bid ∙ reads .fields 2);
@@ -103,13 +103,13 @@ module _ (r : Rec) (e : Event) (reads : Reads e r) where
 
 -- ---- the kind decides
 
-module _ (q st periods : List ℕ) (n home : ℕ) (sizes : List ℕ) (sent trades : ℕ) (r : Rec) where
+module _ (quotes statuses periods : List ℕ) (exchanges home : ℕ) (sizes : List ℕ) (sent traded : ℕ) (r : Rec) where
   module _ (tidy : Tidy periods) where
     -- a record that is neither a home quote nor a received order leaves the periods
-    leaves-periods : (r .kind ≡ receivedKind → ⊥) → ((h : Header) (e : Event) → Heads h n home sizes → Reads e r → e .kind ≡ quoteKind → field e 0 ≡ h .home → ⊥) → (a : Judged)
-        → ((h : Header) (e : Event) (past : History) → Heads h n home sizes → Reads e r → Quoted past q → Statuses past st → sent ≡ count isSent past → trades ≡ count isTrade past
+    leaves-periods : (r .kind ≡ receivedKind → ⊥) → ((h : Header) (e : Event) → Heads h exchanges home sizes → Reads e r → e .kind ≡ quoteKind → field e 0 ≡ h .home → ⊥) → (a : Judged)
+        → ((h : Header) (e : Event) (past : History) → Heads h exchanges home sizes → Reads e r → Quoted past quotes → Statuses past statuses → sent ≡ count isSent past → traded ≡ count isTrade past
         → (event : ℕ) → judgedAs event a ≡ judged h event past e)
-        → JudgedIs q st periods n home sizes sent trades r periods a
+        → JudgedIs quotes statuses periods exchanges home sizes sent traded r periods a
     leaves-periods n6 away a so =
         record {
           tidy = tidy;
@@ -117,16 +117,16 @@ module _ (q st periods : List ℕ) (n home : ℕ) (sizes : List ℕ) (sent trade
           kept = λ h e past hd reads held hs stands. periods-stay h e past periods (λ z. n6 (sym (reads .kind) ∙ z)) (away h e hd reads) stands;
         }
 
-    no-quote : (r .kind ≡ quoteKind → ⊥) → (h : Header) (e : Event) → Heads h n home sizes → Reads e r → e .kind ≡ quoteKind → field e 0 ≡ h .home → ⊥
+    no-quote : (r .kind ≡ quoteKind → ⊥) → (h : Header) (e : Event) → Heads h exchanges home sizes → Reads e r → e .kind ≡ quoteKind → field e 0 ≡ h .home → ⊥
     no-quote n1 h e hd reads k _ = n1 (sym (reads .kind) ∙ k)
 
   module _ (k1 : r .kind ≡ quoteKind) (b : Bool) (eb : b ≡ homesOf r home) where
     -- the same test, of the event
-    home-is : (h : Header) (e : Event) → Heads h n home sizes → Reads e r → eqb (field e 0) (h .home) ≡ b
+    home-is : (h : Header) (e : Event) → Heads h exchanges home sizes → Reads e r → eqb (field e 0) (h .home) ≡ b
     unfolding homesOf
     home-is h e hd reads = rw (← reads .fields 0, hd .home, eb)
 
-    pub judged-away : not b ≡ true → Tidy periods → JudgedIs q st periods n home sizes sent trades r periods Nothing
+    pub judged-away : not b ≡ true → Tidy periods → JudgedIs quotes statuses periods exchanges home sizes sent traded r periods Nothing
     unfolding judged judgedAs
     judged-away z tidy =
         leaves-periods tidy (λ y. omega (arith, y, k1))
@@ -134,8 +134,8 @@ module _ (q st periods : List ℕ) (n home : ℕ) (sizes : List ℕ) (sent trade
         (λ h e past hd reads held hs es et event.
         rw (home-is h e hd reads ∙ not-true b z, and-false (eqb (e .kind) 1), kind-other r e reads 1 4 k1 (λ z. omega arith), kind-other r e reads 1 6 k1 (λ z. omega arith), kind-other r e reads 1 3 k1 (λ z. omega arith)))
 
-    pub judged-home : not b ≡ false → (v : Against) (a : Judged) → QuoteSays v a → (w : HomeQuote) → AgainstIs q n home w v → QuoteIs r w → (periods2 : List ℕ) → Requoted r periods periods2
-        → JudgedIs q st periods n home sizes sent trades r periods2 a
+    pub judged-home : not b ≡ false → (v : Against) (a : Judged) → QuoteSays v a → (w : HomeQuote) → AgainstIs quotes exchanges home w v → QuoteIs r w → (periods2 : List ℕ) → Requoted r periods periods2
+        → JudgedIs quotes statuses periods exchanges home sizes sent traded r periods2 a
     unfolding judged
     judged-home z v a says w against is periods2 marked =
         record {
@@ -148,18 +148,18 @@ module _ (q st periods : List ℕ) (n home : ℕ) (sizes : List ℕ) (sent trade
         }
 
   module _ (n1 : r .kind ≡ quoteKind → ⊥) where
-    pub judged-sent : r .kind ≡ sentKind → Tidy periods → (v : Sent) (a : Judged) → SentSays v sent a → (o : Order) → SentIs q n o v → OrderIs r o
-        → JudgedIs q st periods n home sizes sent trades r periods a
+    pub judged-sent : r .kind ≡ sentKind → Tidy periods → (v : Sent) (a : Judged) → SentSays v sent a → (order : Order) → SentIs quotes exchanges order v → OrderIs r order
+        → JudgedIs quotes statuses periods exchanges home sizes sent traded r periods a
     unfolding judged
-    judged-sent k tidy v a says o is taken =
+    judged-sent k tidy v a says order is taken =
         leaves-periods tidy (λ y. omega (arith, y, k)) (no-quote tidy n1) a
         (λ h e past hd reads held hs es et event.
         rw (kind-not r e reads 1 n1, kind-is r e reads 4 k, ← es)
-        (says .so event ∙ ap (λ y. oneLine event "S" (verdict y sent 0)) (is .so h past (hd .exchanges) held ∙ ap (sentOrder h past) (order-is r e reads o taken))))
+        (says .so event ∙ ap (λ y. oneLine event "S" (verdict y sent 0)) (is .so h past (hd .exchanges) held ∙ ap (sentOrder h past) (order-is r e reads order taken))))
 
     module _ (n4 : r .kind ≡ sentKind → ⊥) where
-      pub judged-received : r .kind ≡ receivedKind → (v : Duty) (a : Judged) → DutySays v a → (periods2 : List ℕ) → ReceivedIs q st periods n home sizes r periods2 v
-          → JudgedIs q st periods n home sizes sent trades r periods2 a
+      pub judged-received : r .kind ≡ receivedKind → (v : Duty) (a : Judged) → DutySays v a → (periods2 : List ℕ) → ReceivedIs quotes statuses periods exchanges home sizes r periods2 v
+          → JudgedIs quotes statuses periods exchanges home sizes sent traded r periods2 a
       unfolding judged
       judged-received k v a says periods2 is =
           record {
@@ -171,16 +171,16 @@ module _ (q st periods : List ℕ) (n home : ℕ) (sizes : List ℕ) (sent trade
           }
 
       module _ (n6 : r .kind ≡ receivedKind → ⊥) where
-        pub judged-trade : r .kind ≡ tradeKind → Tidy periods → (c y : ℕ) (t : Trade) → CountIs q n home t c → (b : Bool) → BlockIs q n t b → y ≡ bit b → TradeIs r t
-            → JudgedIs q st periods n home sizes sent trades r periods (T trades c y)
+        pub judged-trade : r .kind ≡ tradeKind → Tidy periods → (c y : ℕ) (trade : Trade) → CountIs quotes exchanges home trade c → (b : Bool) → BlockIs quotes exchanges trade b → y ≡ bit b → TradeIs r trade
+            → JudgedIs quotes statuses periods exchanges home sizes sent traded r periods (T traded c y)
         unfolding judged judgedAs
-        judged-trade k tidy c y t counted b block ey is =
-            leaves-periods tidy n6 (no-quote tidy n1) (T trades c y)
+        judged-trade k tidy c y trade counted b block ey is =
+            leaves-periods tidy n6 (no-quote tidy n1) (T traded c y)
             (λ h e past hd reads held hs es et event.
-            let same = trade-is r e reads t is in
+            let same = trade-is r e reads trade is in
             rw (kind-not r e reads 1 n1, kind-not r e reads 4 n4, kind-not r e reads 6 n6, kind-is r e reads 3 k, ← et, ← counted .so h past (paper.trade e) (hd .exchanges) (hd .home) same held, ← block .so h past (paper.trade e) (hd .exchanges) same held, ey))
 
-        pub judged-other : (r .kind ≡ tradeKind → ⊥) → Tidy periods → JudgedIs q st periods n home sizes sent trades r periods Nothing
+        pub judged-other : (r .kind ≡ tradeKind → ⊥) → Tidy periods → JudgedIs quotes statuses periods exchanges home sizes sent traded r periods Nothing
         unfolding judged judgedAs
         judged-other n3 tidy =
             leaves-periods tidy n6 (no-quote tidy n1) Nothing
@@ -189,40 +189,40 @@ module _ (q st periods : List ℕ) (n home : ℕ) (sizes : List ℕ) (sent trade
 
 -- ---- a quote by itself
 
-module _ (q periods : List ℕ) (n home : ℕ) (r : Rec) (k : r .kind ≡ quoteKind) where
-  pub home-judged : homesOf r home ≡ true → (v : Against) (a : Judged) → QuoteSays v a → (w : HomeQuote) → AgainstIs q n home w v → QuoteIs r w → (periods2 : List ℕ) → Requoted r periods periods2
-      → QuoteJudged q periods n home r periods2 a
+module _ (quotes periods : List ℕ) (exchanges home : ℕ) (r : Rec) (k : r .kind ≡ quoteKind) where
+  pub home-judged : homesOf r home ≡ true → (v : Against) (a : Judged) → QuoteSays v a → (w : HomeQuote) → AgainstIs quotes exchanges home w v → QuoteIs r w → (periods2 : List ℕ) → Requoted r periods periods2
+      → QuoteJudged quotes periods exchanges home r periods2 a
   home-judged z v a says w against is periods2 marked =
-      record { so = λ st sizes sent trades. judged-home q st periods n home sizes sent trades r k (homesOf r home) refl (rw z) v a says w against is periods2 marked }
+      record { so = λ statuses sizes sent traded. judged-home quotes statuses periods exchanges home sizes sent traded r k (homesOf r home) refl (rw z) v a says w against is periods2 marked }
 
-  pub away-judged : (b : Bool) → b ≡ homesOf r home → not b ≡ true → Tidy periods → QuoteJudged q periods n home r periods Nothing
-  away-judged b eb z tidy = record { so = λ st sizes sent trades. judged-away q st periods n home sizes sent trades r k b eb z tidy }
+  pub away-judged : (b : Bool) → b ≡ homesOf r home → not b ≡ true → Tidy periods → QuoteJudged quotes periods exchanges home r periods Nothing
+  away-judged b eb z tidy = record { so = λ statuses sizes sent traded. judged-away quotes statuses periods exchanges home sizes sent traded r k b eb z tidy }
 
-  pub judged-as-quote : (st sizes : List ℕ) (sent trades : ℕ) (periods2 : List ℕ) (a : Judged) → QuoteJudged q periods n home r periods2 a → JudgedIs q st periods n home sizes sent trades r periods2 a
-  judged-as-quote st sizes sent trades periods2 a is = is .so st sizes sent trades
+  pub judged-as-quote : (statuses sizes : List ℕ) (sent traded : ℕ) (periods2 : List ℕ) (a : Judged) → QuoteJudged quotes periods exchanges home r periods2 a → JudgedIs quotes statuses periods exchanges home sizes sent traded r periods2 a
+  judged-as-quote statuses sizes sent traded periods2 a is = is .so statuses sizes sent traded
 
 pub it-is-home : (r : Rec) (home : ℕ) (b : Bool) → b ≡ homesOf r home → not b ≡ false → homesOf r home ≡ true
 it-is-home r home b eb n = sym eb ∙ not-false b n
 
 -- ---- what the callees require
 
-module _ (n home : ℕ) (r : Rec) (ok : RecOk n home r) where
-  pub quote-series : (v : HomeQuote) → QuoteIs r v → r .kind ≡ quoteKind → v .series < 32
-  quote-series v is k = let g = ok .quote k in omega (arith, g .series, is .series)
+module _ (exchanges home : ℕ) (r : Rec) (ok : RecOk exchanges home r) where
+  pub quote-series : (quote : HomeQuote) → QuoteIs r quote → r .kind ≡ quoteKind → quote .series < manySeries
+  quote-series quote is k = let g = ok .quote k in omega (arith, g .series, is .series)
 
-  pub count-fits : (q : List ℕ) (t : Trade) (c : ℕ) → CountIs q n home t c → Headed n home → Fits w32 c
-  count-fits q t c is hd = record { fits = omega (arith, is .few, hd .few) }
+  pub count-fits : (quotes : List ℕ) (trade : Trade) (c : ℕ) → CountIs quotes exchanges home trade c → Headed exchanges home → Fits w32 c
+  count-fits quotes trade c is hd = record { fits = omega (arith, is .few, hd .few) }
 
-  pub trade-series : (t : Trade) → TradeIs r t → r .kind ≡ tradeKind → t .series < 32
-  trade-series t is k = series-low n r t (ok .trade k) is
+  pub trade-series : (trade : Trade) → TradeIs r trade → r .kind ≡ tradeKind → trade .series < manySeries
+  trade-series trade is k = series-low exchanges r trade (ok .trade k) is
 
-  pub sent-within : (o : Order) → OrderIs r o → r .kind ≡ sentKind → Headed n home → Within (o .other) (o .series)
-  sent-within o is k hd =
+  pub sent-within : (order : Order) → OrderIs r order → r .kind ≡ sentKind → Headed exchanges home → Within (order .other) (order .series)
+  sent-within order is k hd =
       let g = ok .sent k in
       record {
-        from-one = order-from n home r g o is;
-        to-eight = omega (arith, order-to n home r g o is, hd .few);
-        low = order-series n home r g o is;
+        from-one = order-from exchanges home r g order is;
+        to-eight = omega (arith, order-to exchanges home r g order is, hd .few);
+        low = order-series exchanges home r g order is;
       }
 
 pub ruleset judge-laws = (says-clear, says-locked, says-crossed, says-fine, says-not-shown, says-not-best, says-none, says-whole, says-least, home-judged, judged-away, it-is-home, judged-as-quote, judged-sent, judged-received, judged-trade, judged-other, quote-series, count-fits, trade-series, sent-within)

@@ -19,34 +19,34 @@ use Rattle.home.specs.declared.Against.{Against}
 use Rattle.orders.specs.declared.Sent.{Sent}
 use Rattle.orders.specs.declared.Duty.{Duty}
 
--- the lines of event n
+-- the lines of an event, by its number
 unfoldable pub judgedAs : ℕ → Judged → List Printed
-judgedAs n Nothing = []
-judgedAs n (Q a b c) = oneLine n "Q" (verdict a b c)
-judgedAs n (S a b c) = oneLine n "S" (verdict a b c)
-judgedAs n (R a b c) = oneLine n "R" (verdict a b c)
-judgedAs n (T a b c) = oneLine n "T" (verdict a b c)
+judgedAs event Nothing = []
+judgedAs event (Q a b c) = oneLine event "Q" (verdict a b c)
+judgedAs event (S a b c) = oneLine event "S" (verdict a b c)
+judgedAs event (R a b c) = oneLine event "R" (verdict a b c)
+judgedAs event (T a b c) = oneLine event "T" (verdict a b c)
 
 -- ---- a verdict as a line
 
-pub record QuoteSays (v : Against) (r : Judged) : Type 0 where
-  pub so : (n : ℕ) → judgedAs n r ≡ oneLine n "Q" (againstAs v)
+pub record QuoteSays (against : Against) (r : Judged) : Type 0 where
+  pub so : (event : ℕ) → judgedAs event r ≡ oneLine event "Q" (againstAs against)
 
-pub record SentSays (v : Sent) (number : ℕ) (r : Judged) : Type 0 where
-  pub so : (n : ℕ) → judgedAs n r ≡ oneLine n "S" (verdict (sentAs v) number 0)
+pub record SentSays (answer : Sent) (number : ℕ) (r : Judged) : Type 0 where
+  pub so : (event : ℕ) → judgedAs event r ≡ oneLine event "S" (verdict (sentAs answer) number 0)
 
-pub record DutySays (v : Duty) (r : Judged) : Type 0 where
-  pub so : (n : ℕ) → judgedAs n r ≡ oneLine n "R" (dutyAs v)
+pub record DutySays (duty : Duty) (r : Judged) : Type 0 where
+  pub so : (event : ℕ) → judgedAs event r ≡ oneLine event "R" (dutyAs duty)
 
 -- ---- a record of any kind
 
-pub record JudgedIs (q st periods : List ℕ) (n home : ℕ) (sizes : List ℕ) (sent trades : ℕ) (r : Rec) (periods2 : List ℕ) (a : Judged) : Type 0 where
+pub record JudgedIs (quotes statuses periods : List ℕ) (exchanges home : ℕ) (sizes : List ℕ) (sent traded : ℕ) (r : Rec) (periods2 : List ℕ) (a : Judged) : Type 0 where
   pub tidy : Tidy periods2
-  pub so : (h : Header) (e : Event) (past : History) → Heads h n home sizes → Reads e r → Quoted past q → Statuses past st → Periods h past periods
-      → sent ≡ count isSent past → trades ≡ count isTrade past → (event : ℕ) → judgedAs event a ≡ judged h event past e
-  pub kept : (h : Header) (e : Event) (past : History) → Heads h n home sizes → Reads e r → Quoted past q → Statuses past st → Periods h past periods
+  pub so : (h : Header) (e : Event) (past : History) → Heads h exchanges home sizes → Reads e r → Quoted past quotes → Statuses past statuses → Periods h past periods
+      → sent ≡ count isSent past → traded ≡ count isTrade past → (event : ℕ) → judgedAs event a ≡ judged h event past e
+  pub kept : (h : Header) (e : Event) (past : History) → Heads h exchanges home sizes → Reads e r → Quoted past quotes → Statuses past statuses → Periods h past periods
       → Periods h (e ∷ past) periods2
 
 -- a quote: neither statuses nor sizes, orders or trades before it decide
-pub record QuoteJudged (q periods : List ℕ) (n home : ℕ) (r : Rec) (periods2 : List ℕ) (a : Judged) : Type 0 where
-  pub so : (st sizes : List ℕ) (sent trades : ℕ) → JudgedIs q st periods n home sizes sent trades r periods2 a
+pub record QuoteJudged (quotes periods : List ℕ) (exchanges home : ℕ) (r : Rec) (periods2 : List ℕ) (a : Judged) : Type 0 where
+  pub so : (statuses sizes : List ℕ) (sent traded : ℕ) → JudgedIs quotes statuses periods exchanges home sizes sent traded r periods2 a

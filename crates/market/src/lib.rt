@@ -10,9 +10,12 @@ ghost use Rattle.periods.specs.Periods.{Tidy};
 ghost use Rattle.home.specs.Home.{homesOf};
 ghost use Rattle.market.specs.Judged.{QuoteSays, SentSays, DutySays, JudgedIs, QuoteJudged};
 use home::Against;
+use limits::FirmSize;
 use orders::Duty;
 use orders::Sent;
 use periods::Period;
+use quotes::Quotes;
+use quotes::Statuses;
 use rows::Rec;
 
 // What is printed of a record: its letter, and a, b, c.
@@ -24,30 +27,30 @@ pub enum Judged {
     T(u32, u32, u32),
 }
 
-fn quote_says(v: Against) -> Judged
-    ensures { λ r. ⌜ QuoteSays v r ⌝ }
+fn quote_says(against: Against) -> Judged
+    ensures { λ r. ⌜ QuoteSays against r ⌝ }
 {
-    match v {
+    match against {
         Against::Clear => Judged::Q(Against::CLEAR, 0, 0),
-        Against::Locked(x, side) => Judged::Q(Against::LOCKED, x, side),
-        Against::Crossed(x, side) => Judged::Q(Against::CROSSED, x, side),
+        Against::Locked(exchange, side) => Judged::Q(Against::LOCKED, exchange, side),
+        Against::Crossed(exchange, side) => Judged::Q(Against::CROSSED, exchange, side),
     }
 }
 
-fn sent_says(v: Sent, number: u32) -> Judged
-    ensures { λ r. ⌜ SentSays v number r ⌝ }
+fn sent_says(answer: Sent, number: u32) -> Judged
+    ensures { λ r. ⌜ SentSays answer number r ⌝ }
 {
-    match v {
+    match answer {
         Sent::Fine => Judged::S(Sent::FINE, number, 0),
         Sent::NotShown => Judged::S(Sent::NOT_SHOWN, number, 0),
         Sent::NotBest => Judged::S(Sent::NOT_BEST, number, 0),
     }
 }
 
-fn duty_says(v: Duty) -> Judged
-    ensures { λ r. ⌜ DutySays v r ⌝ }
+fn duty_says(duty: Duty) -> Judged
+    ensures { λ r. ⌜ DutySays duty r ⌝ }
 {
-    match v {
+    match duty {
         Duty::NoDuty(reason) => Judged::R(Duty::NONE, 0, reason),
         Duty::Whole(contracts) => Judged::R(Duty::WHOLE, contracts, 0),
         Duty::AtLeast(contracts) => Judged::R(Duty::AT_LEAST, contracts, 0),
@@ -56,7 +59,7 @@ fn duty_says(v: Duty) -> Judged
 
 // A home quote, which is also a later quote of the periods that stand.
 pub fn judge_quote(
-    quotes: &[u32; 2048],
+    quotes: &[u32; Quotes::WORDS],
     periods: &mut [u32; Period::WORDS],
     exchanges: usize,
     home: usize,
@@ -71,40 +74,55 @@ pub fn judge_quote(
 }
 
 // "Away quotes, statuses and responses print nothing."; what is printed of a Satisfaction Order is our own sheet's.
-// `sent` and `trades` count the sent orders and the trades before this record; `periods` stands as before it, and then as after it.
+// `sent` and `traded` count the sent orders and the trades before this record; `periods` stands as before it, and then as after it.
 pub fn judge(
-    q: &[u32; 2048],
-    st: &[u32; 8],
+    quotes: &[u32; Quotes::WORDS],
+    statuses: &[u32; Statuses::WORDS],
     periods: &mut [u32; Period::WORDS],
-    n: usize,
+    exchanges: usize,
     home: usize,
-    sizes: &[u32; 16],
+    sizes: &[u32; FirmSize::WORDS],
     sent: usize,
-    trades: usize,
+    traded: usize,
     r: Rec,
 ) -> Judged
-    requires { ⌜ Headed n home × RecOk n home r ⌝ }
-    requires { ⌜ (sent ≤ mostSentOrders) × (trades ≤ mostTrades) × Tidy (now periods) ⌝ }
-    ensures { λ a. ⌜ JudgedIs (now (q .entry)) (now (st .entry)) (now (periods .entry)) n home (now (sizes .entry)) sent trades r (now (periods .exit)) a ⌝ }
+    requires { ⌜ Headed exchanges home × RecOk exchanges home r ⌝ }
+    requires { ⌜ (sent ≤ mostSentOrders) × (traded ≤ mostTrades) × Tidy (now periods) ⌝ }
+    ensures { λ a. ⌜ JudgedIs (now (quotes .entry)) (now (statuses .entry)) (now (periods .entry)) exchanges home (now (sizes .entry)) sent traded r (now (periods .exit)) a ⌝ }
 {
     if r.kind == Rec::QUOTE {
         if !home::is_home(r, home) {
             return Judged::Nothing;
         }
-        return judge_quote(q, periods, n, home, r);
+        return judge_quote(quotes, periods, exchanges, home, r);
     }
     if r.kind == Rec::SENT {
         let number = sent as u32;
-        return sent_says(orders::sent_order(q, n, orders::order_of(r)), number);
+        return sent_says(
+            orders::sent_order(quotes, exchanges, orders::order_of(r)),
+            number,
+        );
     }
     if r.kind == Rec::RECEIVED {
-        return duty_says(periods::received_order(q, st, periods, n, home, sizes, r));
+        return duty_says(periods::received_order(
+            quotes,
+            statuses,
+            periods,
+            exchanges,
+            home,
+            sizes,
+            r,
+        ));
     }
     if r.kind == Rec::TRADE {
-        let t = through::trade_of(r);
-        let number = trades as u32;
-        let count = through::count_through(q, n, home, t) as u32;
-        return Judged::T(number, count, rows::bit_of(through::is_block(q, n, t)));
+        let trade = through::trade_of(r);
+        let number = traded as u32;
+        let count = through::count_through(quotes, exchanges, home, trade) as u32;
+        return Judged::T(
+            number,
+            count,
+            rows::bit_of(through::is_block(quotes, exchanges, trade)),
+        );
     }
     Judged::Nothing
 }

@@ -9,6 +9,7 @@ use lib.ListN.{getD}
 use lib.Seq.{getD-take}
 use borrow.Author.Tests.{eq-eqb, ne-eqb}
 use Rattle.rules.specs.Basics.{firstOf}
+use Rattle.rules.specs.Limits.{mostExchanges}
 use Rattle.rules.specs.Header.{Header, automatic, principal, sizesOf}
 use Rattle.rules.specs.Record as paper
 use Rattle.rules.specs.Record.{Event}
@@ -17,7 +18,7 @@ use Rattle.rules.specs.Prices.{standing, statusOf}
 use Rattle.rules.specs.Verdicts.{sentOrder, noDuty, firmSize}
 use Rattle.rows.specs.Rows.{Reads, OrderOk}
 use Rattle.rows.specs.declared.Rec.{Rec}
-use Rattle.quotes.specs.Tables.{Quoted, Statuses, Within}
+use Rattle.quotes.specs.Tables.{manySeries, Quoted, Statuses, Within}
 use Rattle.prices.specs.Prices.{aboveOf, equalOf, bidOf, offerOf, PlaceIs, BidIs, OfferIs}
 use Rattle.orders.specs.Orders.{Headed, Heads, asOrder, OrderIs, worseOf, shownAt, bestAt, sentAs, ShownIs, BestIs, SentIs, NoDutyIs, FirmIs}
 use Rattle.orders.specs.declared.Order.{Order}
@@ -35,62 +36,62 @@ module _ (side there price : ℕ) (r : Bool) where
 
 -- ---- what an exchange shows, and the best
 
--- one before exchange x is its place, one after that is x
-place-before : (x : ℕ) → 1 ≤ x → suc (x - 1) ≡ x
-place-before x l = omega arith
+-- one before an exchange is its place, one after that is the exchange
+place-before : (exchange : ℕ) → 1 ≤ exchange → suc (exchange - 1) ≡ exchange
+place-before exchange l = omega arith
 
-module _ (q : List ℕ) (x s side k : ℕ) (w : Within x s) (p : PlaceIs (x - 1) s k) where
-  shown-at : (word : ℕ) (of : paper.Quote → ℕ) → Shows word of q → (past : History) → Quoted past q → getD q (k + word) 0 ≡ of (standing x s past)
+module _ (quotes : List ℕ) (exchange series side k : ℕ) (w : Within exchange series) (p : PlaceIs (exchange - 1) series k) where
+  shown-at : (word : ℕ) (of : paper.Quote → ℕ) → Shows word of quotes → (past : History) → Quoted past quotes → getD quotes (k + word) 0 ≡ of (standing exchange series past)
   shown-at word of shows past held =
-      shows past held (x - 1) s k (omega arith) (w .low) p ∙ ap (λ y. of (standing y s past)) (place-before x (w .from-one))
+      shows past held (exchange - 1) series k (omega arith) (w .low) p ∙ ap (λ y. of (standing y series past)) (place-before exchange (w .from-one))
 
-  pub shown-offer : side ≡ 1 → ShownIs q x s side (getD q (k + 5) 0)
+  pub shown-offer : side ≡ 1 → ShownIs quotes exchange series side (getD quotes (k + 5) 0)
   unfolding shownAt offerOf
-  shown-offer e = record { so = λ past held. rw (eq-eqb _ _ e) (shown-at 5 offerOf (offer-shown q) past held) }
+  shown-offer e = record { so = λ past held. rw (eq-eqb _ _ e) (shown-at 5 offerOf (offer-shown quotes) past held) }
 
-  pub shown-bid : (side ≡ 1 → ⊥) → ShownIs q x s side (getD q (k + 2) 0)
+  pub shown-bid : (side ≡ 1 → ⊥) → ShownIs quotes exchange series side (getD quotes (k + 2) 0)
   unfolding shownAt bidOf
-  shown-bid e = record { so = λ past held. rw (ne-eqb _ _ e) (shown-at 2 bidOf (bid-shown q) past held) }
+  shown-bid e = record { so = λ past held. rw (ne-eqb _ _ e) (shown-at 2 bidOf (bid-shown quotes) past held) }
 
-module _ (q : List ℕ) (n s side r : ℕ) where
-  pub best-buy : side ≡ 1 → OfferIs q n s r → BestIs q n s side r
+module _ (quotes : List ℕ) (exchanges series side r : ℕ) where
+  pub best-buy : side ≡ 1 → OfferIs quotes exchanges series r → BestIs quotes exchanges series side r
   unfolding bestAt
   best-buy e f = record { so = λ h past en held. rw (eq-eqb _ _ e) (f .so h past en held) }
 
-  pub best-sell : (side ≡ 1 → ⊥) → BidIs q n s r → BestIs q n s side r
+  pub best-sell : (side ≡ 1 → ⊥) → BidIs quotes exchanges series r → BestIs quotes exchanges series side r
   unfolding bestAt
   best-sell e f = record { so = λ h past en held. rw (ne-eqb _ _ e) (f .so h past en held) }
 
 -- ---- a sent order
 
-module _ (q : List ℕ) (n : ℕ) (o : Order) (t : ℕ) (et : ShownIs q (o .other) (o .series) (o .side) t) (b : Bool) (eb : b ≡ equalOf (o .price) t) where
-  pub sent-not-shown : not b ≡ true → SentIs q n o NotShown
+module _ (quotes : List ℕ) (exchanges : ℕ) (order : Order) (there : ℕ) (et : ShownIs quotes (order .other) (order .series) (order .side) there) (b : Bool) (eb : b ≡ equalOf (order .price) there) where
+  pub sent-not-shown : not b ≡ true → SentIs quotes exchanges order NotShown
   unfolding sentAs sentOrder asOrder firstOf shownAt equalOf
   sent-not-shown z = record { so = λ h past en held. rw (← et .so past held, ← eb, z) }
 
-  module _ (z : not b ≡ false) (p : ℕ) (ep : BestIs q n (o .series) (o .side) p) where
-    pub sent-not-best : (t ≡ p → ⊥) → SentIs q n o NotBest
+  module _ (z : not b ≡ false) (p : ℕ) (ep : BestIs quotes exchanges (order .series) (order .side) p) where
+    pub sent-not-best : (there ≡ p → ⊥) → SentIs quotes exchanges order NotBest
     unfolding sentAs sentOrder asOrder firstOf shownAt equalOf bestAt
     sent-not-best ne = record { so = λ h past en held. rw (← et .so past held, ← eb, z, ← ep .so h past en held, ne-eqb _ _ ne) }
 
-    pub sent-fine : t ≡ p → SentIs q n o Fine
+    pub sent-fine : there ≡ p → SentIs quotes exchanges order Fine
     unfolding sentAs sentOrder asOrder firstOf shownAt equalOf bestAt
     sent-fine e = record { so = λ h past en held. rw (← et .so past held, ← eb, z, ← ep .so h past en held, eq-eqb _ _ e) }
 
 -- ---- why there is no duty
 
-module _ (q st : List ℕ) (n home : ℕ) (o : Order) (t : ℕ) (et : ShownIs q home (o .series) (o .side) t) where
-  pub duty-absent : t ≡ 0 → NoDutyIs q st n home o 1
+module _ (quotes statuses : List ℕ) (exchanges home : ℕ) (order : Order) (ours : ℕ) (et : ShownIs quotes home (order .series) (order .side) ours) where
+  pub duty-absent : ours ≡ 0 → NoDutyIs quotes statuses exchanges home order 1
   unfolding noDuty asOrder firstOf shownAt
   duty-absent e = record { so = λ h past en eh held hs. rw (eh, ← et .so past held, eq-eqb _ _ e) }
 
-  module _ (some : t ≡ 0 → ⊥) (b : Bool) (eb : b ≡ worseOf (o .side) t (o .price)) where
-    pub duty-worse : b ≡ true → NoDutyIs q st n home o 1
+  module _ (some : ours ≡ 0 → ⊥) (b : Bool) (eb : b ≡ worseOf (order .side) ours (order .price)) where
+    pub duty-worse : b ≡ true → NoDutyIs quotes statuses exchanges home order 1
     unfolding noDuty asOrder firstOf shownAt worseOf
     duty-worse z = record { so = λ h past en eh held hs. rw (eh, ← et .so past held, ← eb, ne-eqb _ _ some, z) }
 
-    module _ (z : b ≡ false) (p : ℕ) (ep : BestIs q n (o .series) (o .side) p) where
-      pub duty-not-best : (t ≡ p → ⊥) → NoDutyIs q st n home o 2
+    module _ (z : b ≡ false) (p : ℕ) (ep : BestIs quotes exchanges (order .series) (order .side) p) where
+      pub duty-not-best : (ours ≡ p → ⊥) → NoDutyIs quotes statuses exchanges home order 2
       unfolding noDuty asOrder firstOf shownAt worseOf bestAt
       duty-not-best ne =
           record {
@@ -98,12 +99,12 @@ module _ (q st : List ℕ) (n home : ℕ) (o : Order) (t : ℕ) (et : ShownIs q 
                 rw (← ep .so h past en held, eh, ← et .so past held, ← eb, ne-eqb _ _ some, z, ne-eqb _ _ ne);
           }
 
-      module _ (same : t ≡ p) (w : (n ≤ 8) × Within home (o .series)) where
-        status-is : (past : History) → Statuses past st → getD st (home - 1) 0 ≡ statusOf home past
+      module _ (same : ours ≡ p) (w : (exchanges ≤ mostExchanges) × Within home (order .series)) where
+        status-is : (past : History) → Statuses past statuses → getD statuses (home - 1) 0 ≡ statusOf home past
         status-is past hs =
-            hs .status (home - 1) (omega arith) ∙ ap (λ x. statusOf x past) (add-one (home - 1) ∙ place-before home (w .1 .from-one))
+            hs .status (home - 1) (omega arith) ∙ ap (λ exchange. statusOf exchange past) (add-one (home - 1) ∙ place-before home (w .1 .from-one))
 
-        pub duty-non-firm : getD st (home - 1) 0 ≡ 1 → NoDutyIs q st n home o 3
+        pub duty-non-firm : getD statuses (home - 1) 0 ≡ 1 → NoDutyIs quotes statuses exchanges home order 3
         unfolding noDuty asOrder firstOf shownAt worseOf bestAt
         duty-non-firm e =
             record {
@@ -111,7 +112,7 @@ module _ (q st : List ℕ) (n home : ℕ) (o : Order) (t : ℕ) (et : ShownIs q 
                   rw (← ep .so h past en held, eh, ← et .so past held, ← eb, ne-eqb _ _ some, z, eq-eqb _ _ same, ← status-is past hs, eq-eqb _ _ e);
             }
 
-        pub duty-full : (getD st (home - 1) 0 ≡ 1 → ⊥) → NoDutyIs q st n home o 0
+        pub duty-full : (getD statuses (home - 1) 0 ≡ 1 → ⊥) → NoDutyIs quotes statuses exchanges home order 0
         unfolding noDuty asOrder firstOf shownAt worseOf bestAt
         duty-full e =
             record {
@@ -121,20 +122,20 @@ module _ (q st : List ℕ) (n home : ℕ) (o : Order) (t : ℕ) (et : ShownIs q 
 
 -- ---- the firm size
 
-module _ (n home : ℕ) (sizes : List ℕ) (o : Order) (hd : Headed n home) (from : 1 ≤ o .other) (to : o .other ≤ n) where
-  size-at : (h : Header) → Heads h n home sizes → (i : ℕ) → i < sizesOf n → getD (h .sizes) i 0 ≡ getD sizes i 0
+module _ (exchanges home : ℕ) (sizes : List ℕ) (order : Order) (hd : Headed exchanges home) (from : 1 ≤ order .other) (to : order .other ≤ exchanges) where
+  size-at : (h : Header) → Heads h exchanges home sizes → (i : ℕ) → i < sizesOf exchanges → getD (h .sizes) i 0 ≡ getD sizes i 0
   size-at h hs i l = ap (λ (z : List ℕ). getD z i 0) (hs .sizes) ∙ rw getD-take
 
-  pub firm-linked : o .kind ≡ 1 → (r : ℕ) → r ≡ min (getD sizes (2 * (home - 1)) 0) (getD sizes (2 * (o .other - 1)) 0) → FirmIs n home sizes o r
+  pub firm-linked : order .kind ≡ 1 → (r : ℕ) → r ≡ min (getD sizes (2 * (home - 1)) 0) (getD sizes (2 * (order .other - 1)) 0) → FirmIs exchanges home sizes order r
   unfolding firmSize asOrder automatic
   firm-linked e r m =
       record {
         so = λ h hs.
             let at-home : automatic h (h .home) ≡ getD sizes (2 * (home - 1)) 0 = ap (automatic h) (hs .home) ∙ size-at h hs (2 * (home - 1)) (omega arith) in
-            rw (eq-eqb _ _ e, at-home, size-at h hs (2 * (o .other - 1)) (omega arith)) m;
+            rw (eq-eqb _ _ e, at-home, size-at h hs (2 * (order .other - 1)) (omega arith)) m;
       }
 
-  pub firm-principal : (o .kind ≡ 1 → ⊥) → FirmIs n home sizes o (getD sizes (2 * (home - 1) + 1) 0)
+  pub firm-principal : (order .kind ≡ 1 → ⊥) → FirmIs exchanges home sizes order (getD sizes (2 * (home - 1) + 1) 0)
   unfolding firmSize asOrder principal
   firm-principal e =
       record {
@@ -143,24 +144,24 @@ module _ (n home : ℕ) (sizes : List ℕ) (o : Order) (hd : Headed n home) (fro
 
 -- ---- what the code took out of a record is what the paper names
 
-pub order-is : (r : Rec) (e : Event) → Reads e r → (o : Order) → OrderIs r o → asOrder o ≡ paper.order e
+pub order-is : (r : Rec) (e : Event) → Reads e r → (order : Order) → OrderIs r order → asOrder order ≡ paper.order e
 unfolding asOrder
-order-is r e reads o is =
+order-is r e reads order is =
     rw (is .type ∙ reads .fields 0, is .other ∙ reads .fields 1, is .series ∙ reads .fields 2, is .side ∙ reads .fields 3, is .price ∙ reads .fields 4, is .size ∙ reads .fields 5)
 
-module _ (n home : ℕ) (r : Rec) (ok : OrderOk n home r) (o : Order) (is : OrderIs r o) where
-  pub order-from : 1 ≤ o .other
+module _ (exchanges home : ℕ) (r : Rec) (ok : OrderOk exchanges home r) (order : Order) (is : OrderIs r order) where
+  pub order-from : 1 ≤ order .other
   order-from = omega (arith, ok .other .from-one, is .other)
 
-  pub order-to : o .other ≤ n
+  pub order-to : order .other ≤ exchanges
   order-to = omega (arith, ok .other .to-n, is .other)
 
-  pub order-series : o .series < 32
+  pub order-series : order .series < manySeries
   order-series = omega (arith, ok .series, is .series)
 
 -- ---- what the callees require
 
-pub home-within : (n home s : ℕ) → Headed n home → s < 32 → Within home s
-home-within n home s hd low = record { from-one = hd .from-one; to-eight = omega arith; low = low }
+pub home-within : (exchanges home series : ℕ) → Headed exchanges home → series < manySeries → Within home series
+home-within exchanges home series hd low = record { from-one = hd .from-one; to-eight = omega arith; low = low }
 
 pub ruleset order-laws = (worse-buy, worse-sell, shown-offer, shown-bid, best-buy, best-sell, sent-not-shown, sent-not-best, sent-fine, duty-absent, duty-worse, duty-not-best, duty-non-firm, duty-full, firm-linked, firm-principal, home-within)

@@ -4,6 +4,7 @@ use mathlib.Core.Bool.{Bool}
 use mathlib.Core.List.{List}
 use Prim.Native.Nat.{ℕ, _≤_}
 use lib.ListN.{take}
+use Rattle.rules.specs.Limits.{mostExchanges}
 use Rattle.rules.specs.Header.{Header, sizesOf}
 use Rattle.rules.specs.Record as paper
 use Rattle.rules.specs.Journal.{History}
@@ -20,43 +21,43 @@ use Rattle.orders.specs.declared.Duty.the-variants.{NoDuty, Whole, AtLea
 
 -- ---- the header's numbers
 
--- exchange `home` of n, each with its place in the tables
-pub record Headed (n home : ℕ) : Type 0 where
-  pub few : n ≤ 8
+-- exchange `home` of so many, each with its place in the tables
+pub record Headed (exchanges home : ℕ) : Type 0 where
+  pub few : exchanges ≤ mostExchanges
   pub from-one : 1 ≤ home
-  pub to-n : home ≤ n
+  pub to-n : home ≤ exchanges
 
 -- a header that has these numbers: its sizes are the first of the list, two for each exchange
-pub record Heads (h : Header) (n x : ℕ) (l : List ℕ) : Type 0 where
-  pub exchanges : h .exchanges ≡ n
-  pub home : h .home ≡ x
-  pub sizes : h .sizes ≡ take (sizesOf n) l
+pub record Heads (h : Header) (many own : ℕ) (words : List ℕ) : Type 0 where
+  pub exchanges : h .exchanges ≡ many
+  pub home : h .home ≡ own
+  pub sizes : h .sizes ≡ take (sizesOf many) words
 
 -- ---- an order
 
 unfoldable pub asOrder : Order → paper.Order
-asOrder o =
-    record { type = o .kind; other = o .other; series = o .series; side = o .side; price = o .price; size = o .size }
+asOrder order =
+    record { type = order .kind; other = order .other; series = order .series; side = order .side; price = order .price; size = order .size }
 
-pub record OrderIs (r : Rec) (o : Order) : Type 0 where
-  pub type : o .kind ≡ word r 0
-  pub other : o .other ≡ word r 1
-  pub series : o .series ≡ word r 2
-  pub side : o .side ≡ word r 3
-  pub price : o .price ≡ word r 4
-  pub size : o .size ≡ word r 5
+pub record OrderIs (r : Rec) (order : Order) : Type 0 where
+  pub type : order .kind ≡ word r 0
+  pub other : order .other ≡ word r 1
+  pub series : order .series ≡ word r 2
+  pub side : order .side ≡ word r 3
+  pub price : order .price ≡ word r 4
+  pub size : order .size ≡ word r 5
 
 -- ---- the paper's words by names that stay shut
 
 unfoldable pub worseOf : ℕ → ℕ → ℕ → Bool
 worseOf side there price = worse side there price
 
--- what exchange x shows to an order of this side
+-- what an exchange shows to an order of this side
 unfoldable pub shownAt : ℕ → ℕ → ℕ → History → ℕ
-shownAt side x s past = shown side (standing x s past)
+shownAt side exchange series past = shown side (standing exchange series past)
 
 unfoldable pub bestAt : Header → ℕ → ℕ → History → ℕ
-bestAt h side s past = best h side s past
+bestAt h side series past = best h side series past
 
 -- ---- the answers
 
@@ -72,17 +73,17 @@ dutyAs (NoDuty reason) = verdict executeNone 0 reason
 dutyAs (Whole contracts) = verdict executeWhole contracts 0
 dutyAs (AtLeast contracts) = verdict executeAtLeast contracts 0
 
-pub record ShownIs (q : List ℕ) (x s side r : ℕ) : Type 0 where
-  pub so : (past : History) → Quoted past q → r ≡ shownAt side x s past
+pub record ShownIs (quotes : List ℕ) (exchange series side r : ℕ) : Type 0 where
+  pub so : (past : History) → Quoted past quotes → r ≡ shownAt side exchange series past
 
-pub record BestIs (q : List ℕ) (n s side r : ℕ) : Type 0 where
-  pub so : (h : Header) (past : History) → h .exchanges ≡ n → Quoted past q → r ≡ bestAt h side s past
+pub record BestIs (quotes : List ℕ) (exchanges series side r : ℕ) : Type 0 where
+  pub so : (h : Header) (past : History) → h .exchanges ≡ exchanges → Quoted past quotes → r ≡ bestAt h side series past
 
-pub record SentIs (q : List ℕ) (n : ℕ) (o : Order) (r : Sent) : Type 0 where
-  pub so : (h : Header) (past : History) → h .exchanges ≡ n → Quoted past q → sentAs r ≡ sentOrder h past (asOrder o)
+pub record SentIs (quotes : List ℕ) (exchanges : ℕ) (order : Order) (r : Sent) : Type 0 where
+  pub so : (h : Header) (past : History) → h .exchanges ≡ exchanges → Quoted past quotes → sentAs r ≡ sentOrder h past (asOrder order)
 
-pub record NoDutyIs (q st : List ℕ) (n home : ℕ) (o : Order) (r : ℕ) : Type 0 where
-  pub so : (h : Header) (past : History) → h .exchanges ≡ n → h .home ≡ home → Quoted past q → Statuses past st → r ≡ noDuty h past (asOrder o)
+pub record NoDutyIs (quotes statuses : List ℕ) (exchanges home : ℕ) (order : Order) (r : ℕ) : Type 0 where
+  pub so : (h : Header) (past : History) → h .exchanges ≡ exchanges → h .home ≡ home → Quoted past quotes → Statuses past statuses → r ≡ noDuty h past (asOrder order)
 
-pub record FirmIs (n home : ℕ) (sizes : List ℕ) (o : Order) (r : ℕ) : Type 0 where
-  pub so : (h : Header) → Heads h n home sizes → r ≡ firmSize h (asOrder o)
+pub record FirmIs (exchanges home : ℕ) (sizes : List ℕ) (order : Order) (r : ℕ) : Type 0 where
+  pub so : (h : Header) → Heads h exchanges home sizes → r ≡ firmSize h (asOrder order)

@@ -1,9 +1,13 @@
 // The verdict on sent orders, and what verdicts on received ones are made of. A buy order goes for the offer, a sell order for the bid.
 ghost use mathlib.Core.Path.{_≡_};
 ghost use Prim.Native.Nat.{_≤_, _<_};
-ghost use Rattle.quotes.specs.Tables.{Within};
+ghost use Rattle.rules.specs.Limits.{mostExchanges};
+ghost use Rattle.quotes.specs.Tables.{manySeries, Within};
 ghost use Rattle.orders.specs.Orders.{worseOf, Headed, OrderIs, ShownIs, BestIs, SentIs, NoDutyIs, FirmIs};
+use limits::FirmSize;
 use quotes::Quote;
+use quotes::Quotes;
+use quotes::Statuses;
 use rows::Rec;
 use rows::Status;
 use rows::Type;
@@ -59,7 +63,7 @@ impl Duty {
 }
 
 pub fn order_of(r: Rec) -> Order
-    ensures { λ o. ⌜ OrderIs r o ⌝ }
+    ensures { λ order. ⌜ OrderIs r order ⌝ }
 {
     let row = r.row;
     Order {
@@ -81,71 +85,77 @@ fn is_worse(side: u32, there: u32, price: u32) -> bool
     prices::is_above(price, there)
 }
 
-pub fn shown_price(q: &[u32; 2048], exchange: usize, series: usize, side: u32) -> u32
+pub fn shown_price(quotes: &[u32; Quotes::WORDS], exchange: usize, series: usize, side: u32) -> u32
     requires { ⌜ Within exchange series ⌝ }
-    ensures { λ r. ⌜ ShownIs (now (q .entry)) exchange series side r ⌝ }
+    ensures { λ r. ⌜ ShownIs (now (quotes .entry)) exchange series side r ⌝ }
 {
     let k = prices::place(exchange - 1, series);
     if side == Way::BUY {
-        return q[k + Quote::OFFER];
+        return quotes[k + Quote::OFFER];
     }
-    q[k + Quote::BID]
+    quotes[k + Quote::BID]
 }
 
-pub fn best_price(q: &[u32; 2048], n: usize, series: usize, side: u32) -> u32
-    requires { ⌜ (n ≤ 8) × (series < 32) ⌝ }
-    ensures { λ r. ⌜ BestIs (now (q .entry)) n series side r ⌝ }
+pub fn best_price(quotes: &[u32; Quotes::WORDS], exchanges: usize, series: usize, side: u32) -> u32
+    requires { ⌜ (exchanges ≤ mostExchanges) × (series < manySeries) ⌝ }
+    ensures { λ r. ⌜ BestIs (now (quotes .entry)) exchanges series side r ⌝ }
 {
     if side == Way::BUY {
-        return prices::best_offer(q, n, series);
+        return prices::best_offer(quotes, exchanges, series);
     }
-    prices::best_bid(q, n, series)
+    prices::best_bid(quotes, exchanges, series)
 }
 
 // "1 if its price is not the receiver's bid (sell) or offer (buy); else 2 if that is not the best; else 0."
-pub fn sent_order(q: &[u32; 2048], n: usize, o: Order) -> Sent
-    requires { ⌜ (n ≤ 8) × Within (o .other) (o .series) ⌝ }
-    ensures { λ r. ⌜ SentIs (now (q .entry)) n o r ⌝ }
+pub fn sent_order(quotes: &[u32; Quotes::WORDS], exchanges: usize, order: Order) -> Sent
+    requires { ⌜ (exchanges ≤ mostExchanges) × Within (order .other) (order .series) ⌝ }
+    ensures { λ r. ⌜ SentIs (now (quotes .entry)) exchanges order r ⌝ }
 {
-    let there = shown_price(q, o.other, o.series, o.side);
-    if !prices::is_equal(o.price, there) {
+    let there = shown_price(quotes, order.other, order.series, order.side);
+    if !prices::is_equal(order.price, there) {
         return Sent::NotShown;
     }
-    if there != best_price(q, n, o.series, o.side) {
+    if there != best_price(quotes, exchanges, order.series, order.side) {
         return Sent::NotBest;
     }
     Sent::Fine
 }
 
 // Why home has no duty to a received order, or 0, of what does not look at earlier orders: "First that holds."
-pub fn no_duty(q: &[u32; 2048], st: &[u32; 8], n: usize, home: usize, o: Order) -> u32
-    requires { ⌜ (n ≤ 8) × Within home (o .series) ⌝ }
-    ensures { λ r. ⌜ NoDutyIs (now (q .entry)) (now (st .entry)) n home o r ⌝ }
+pub fn no_duty(
+    quotes: &[u32; Quotes::WORDS],
+    statuses: &[u32; Statuses::WORDS],
+    exchanges: usize,
+    home: usize,
+    order: Order,
+) -> u32
+    requires { ⌜ (exchanges ≤ mostExchanges) × Within home (order .series) ⌝ }
+    ensures { λ r. ⌜ NoDutyIs (now (quotes .entry)) (now (statuses .entry)) exchanges home order r ⌝ }
 {
-    let ours = shown_price(q, home, o.series, o.side);
+    let ours = shown_price(quotes, home, order.series, order.side);
     if ours == 0 {
         return Duty::ABSENT_OR_WORSE;
     }
-    if is_worse(o.side, ours, o.price) {
+    if is_worse(order.side, ours, order.price) {
         return Duty::ABSENT_OR_WORSE;
     }
-    if ours != best_price(q, n, o.series, o.side) {
+    if ours != best_price(quotes, exchanges, order.series, order.side) {
         return Duty::NOT_BEST;
     }
-    if st[home - 1] == Status::NON_FIRM {
+    if statuses[home - 1] == Status::NON_FIRM {
         return Duty::NON_FIRM;
     }
     0
 }
 
 // "for P/A the lesser of both automatic sizes; for principal home's principal size"
-pub fn firm_size(n: usize, home: usize, sizes: &[u32; 16], o: Order) -> u32
-    requires { ⌜ Headed n home × ((1 ≤ o .other) × (o .other ≤ n)) ⌝ }
-    ensures { λ r. ⌜ FirmIs n home (now (sizes .entry)) o r ⌝ }
+pub fn firm_size(exchanges: usize, home: usize, sizes: &[u32; FirmSize::WORDS], order: Order) -> u32
+    requires { ⌜ Headed exchanges home × ((1 ≤ order .other) × (order .other ≤ exchanges)) ⌝ }
+    ensures { λ r. ⌜ FirmIs exchanges home (now (sizes .entry)) order r ⌝ }
 {
     let ours = 2 * (home - 1);
-    let theirs = 2 * (o.other - 1);
-    if o.kind == Type::LINKED {
+    let theirs = 2 * (order.other - 1);
+    if order.kind == Type::LINKED {
         return rows::lesser(sizes[ours], sizes[theirs]);
     }
     sizes[ours + 1]

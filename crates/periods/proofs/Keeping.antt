@@ -8,6 +8,7 @@ use lib.ListN.{getD, length, set, length-set, replicate, length-replicate, getD-
 use lib.Seq.{getD-set-same, getD-set-other}
 use borrow.Author.Tests.{eq-eqb, ne-eqb, eqb-true, eqb-false, not-true, not-false}
 use Rattle.rules.specs.Basics.{_==_}
+use Rattle.rules.specs.Limits.{mostExchanges}
 use Rattle.rules.specs.Header.{Header}
 use Rattle.rules.specs.Record as paper
 use Rattle.rules.specs.Record.{Event, field, principalOrder, quoteKind, receivedKind}
@@ -17,32 +18,32 @@ use Rattle.rules.specs.Verdicts.{Execution, Period, noPeriod, begun, requotes, 
 use Rattle.rules.proofs.Tests.{byTest}
 use Rattle.rows.specs.Rows.{Reads, Put, RecOk}
 use Rattle.rows.specs.declared.Rec.{Rec}
-use Rattle.quotes.specs.Tables.{Quoted, Statuses}
+use Rattle.quotes.specs.Tables.{manySeries, Quoted, Statuses}
 use Rattle.orders.specs.Orders.{Headed, Heads, asOrder, OrderIs, shownAt, dutyAs, ShownIs}
 use Rattle.orders.specs.declared.Order.{Order}
 use Rattle.orders.specs.declared.Duty.{Duty}
 use Rattle.orders.specs.declared.Duty.the-variants.{NoDuty, Whole, AtLeast}
 use Rattle.orders.proofs.OrderVerdicts.{order-is, order-from, order-to, order-series, home-within}
-use Rattle.periods.specs.Periods.{periodWord, periodAt, Periods, Tidy, InPeriod, initialOf, ReceivedIs, shownBy, markedBy, Marked, Marking, Requoted}
+use Rattle.periods.specs.Periods.{periodWords, periodWord, periodAt, Periods, Tidy, InPeriod, initialOf, ReceivedIs, shownBy, markedBy, Marked, Marking, Requoted}
 
 -- ---- the empty table
 
-pub periods-none : (h : Header) → Periods h [] (replicate 64 0)
+pub periods-none : (h : Header) → Periods h [] (replicate periodWords 0)
 unfolding periodAt periodOf
 periods-none h =
     record {
       stands = λ y l.
-          let zero : periodWord (replicate 64 0) y 0 ≡ 0 = getD-replicate 64 (y * 8 + 0) 0 0 (omega arith) in
+          let zero : periodWord (replicate periodWords 0) y 0 ≡ 0 = getD-replicate periodWords (y * 8 + 0) 0 0 (omega arith) in
           rw zero;
     }
 
-pub tidy-none : Tidy (replicate 64 0)
+pub tidy-none : Tidy (replicate periodWords 0)
 tidy-none =
     record {
       series-low = λ y l.
-          let zero : periodWord (replicate 64 0) y 2 ≡ 0 = getD-replicate 64 (y * 8 + 2) 0 0 (omega arith) in
+          let zero : periodWord (replicate periodWords 0) y 2 ≡ 0 = getD-replicate periodWords (y * 8 + 2) 0 0 (omega arith) in
           omega (arith, zero);
-      long = length-replicate {A = ℕ} 64 0;
+      long = length-replicate {A = ℕ} periodWords 0;
     }
 
 -- ---- what a quote shows
@@ -59,9 +60,9 @@ module _ (row : List ℕ) (side : ℕ) where
 -- ---- one row
 
 -- rows of the same words tell the same period
-same-row : (a b : List ℕ) (y : ℕ) → ((k : ℕ) → k < 6 → periodWord b y k ≡ periodWord a y k) → periodAt b y ≡ periodAt a y
+same-row : (periods periods2 : List ℕ) (y : ℕ) → ((k : ℕ) → k < 6 → periodWord periods2 y k ≡ periodWord periods y k) → periodAt periods2 y ≡ periodAt periods y
 unfolding periodAt
-same-row a b y same =
+same-row periods periods2 y same =
     rw (same 0 (omega arith), same 1 (omega arith), same 2 (omega arith), same 3 (omega arith), same 4 (omega arith), same 5 (omega arith))
 
 module _ (periods : List ℕ) (y : ℕ) (row : List ℕ) where
@@ -82,7 +83,7 @@ module _ (periods : List ℕ) (y : ℕ) (row : List ℕ) where
     pub same-price : p ≡ periodWord periods y 4 → Marked periods y row periods
     same-price e = left-alone (rw (eq-eqb (shownBy row (periodWord periods y 3)) (periodWord periods y 4) (sym ep ∙ e), and-false))
 
-    pub another-price : (p ≡ periodWord periods y 4 → ⊥) → y < 8 → length periods ≡ 64 → Marked periods y row (set periods (y * 8 + 5) 1)
+    pub another-price : (p ≡ periodWord periods y 4 → ⊥) → y < mostExchanges → length periods ≡ periodWords → Marked periods y row (set periods (y * 8 + 5) 1)
     unfolding periodAt markedBy
     another-price ne low long =
         let after : List ℕ = set periods (y * 8 + 5) 1 in
@@ -108,8 +109,8 @@ pub marking-starts : (periods row : List ℕ) → Tidy periods → Marking perio
 marking-starts periods row tidy =
     record { done = λ m l. absurd (omega arith); others = λ m l. refl; tidy = tidy; low = omega arith }
 
-pub marking-goes-on : (periods row : List ℕ) (y : ℕ) (t t2 : List ℕ) → Marking periods y row t → y < 8 → Marked t y row t2 → Marking periods (y + 1) row t2
-marking-goes-on periods row y t t2 g low m =
+pub marking-goes-on : (periods row : List ℕ) (y : ℕ) (periods2 periods3 : List ℕ) → Marking periods y row periods2 → y < mostExchanges → Marked periods2 y row periods3 → Marking periods (y + 1) row periods3
+marking-goes-on periods row y periods2 periods3 g low m =
     record {
       done = λ k l.
           byTest (k == y)
@@ -120,33 +121,33 @@ marking-goes-on periods row y t t2 g low m =
       low = omega arith;
     }
 
-pub marking-tidy : (periods row : List ℕ) (y : ℕ) (t : List ℕ) → Marking periods y row t → length t ≡ 64
-marking-tidy periods row y t g = g .tidy .long
+pub marking-tidy : (periods row : List ℕ) (y : ℕ) (periods2 : List ℕ) → Marking periods y row periods2 → length periods2 ≡ periodWords
+marking-tidy periods row y periods2 g = g .tidy .long
 
 -- ---- beside the history: what one event more does to a period
 
 -- no event but a home quote that gave another price
-goes-on-alone : (h : Header) (e : Event) → ((x : Execution) → requotes h x e ≡ false) → (p : Period) → goesOn h e p ≡ p
+goes-on-alone : (h : Header) (e : Event) → ((execution : Execution) → requotes h execution e ≡ false) → (p : Period) → goesOn h e p ≡ p
 unfolding goesOn
 goes-on-alone h e none noPeriod = refl
-goes-on-alone h e none (begun x) = rw (none x, or-false)
+goes-on-alone h e none (begun execution) = rw (none execution, or-false)
 
-requotes-alone : (h : Header) (e : Event) → (e .kind ≡ quoteKind → field e 0 ≡ h .home → ⊥) → (x : Execution) → requotes h x e ≡ false
+requotes-alone : (h : Header) (e : Event) → (e .kind ≡ quoteKind → field e 0 ≡ h .home → ⊥) → (execution : Execution) → requotes h execution e ≡ false
 unfolding requotes quotes
-requotes-alone h e ne x =
+requotes-alone h e ne execution =
     byTest (e .kind == quoteKind)
     (λ k. rw (k, ne-eqb (field e 0) (h .home) (ne (eqb-true (e .kind) quoteKind k))))
     (λ k. rw k)
 
 -- of what begins no period and is no home quote
-stays : (h : Header) (e : Event) (past : History) (x : ℕ) → executesWhole h past (periodOf h x past) x e ≡ false → (e .kind ≡ quoteKind → field e 0 ≡ h .home → ⊥)
-    → periodOf h x (e ∷ past) ≡ periodOf h x past
+stays : (h : Header) (e : Event) (past : History) (exchange : ℕ) → executesWhole h past (periodOf h exchange past) exchange e ≡ false → (e .kind ≡ quoteKind → field e 0 ≡ h .home → ⊥)
+    → periodOf h exchange (e ∷ past) ≡ periodOf h exchange past
 unfolding periodOf
-stays h e past x none ne = rw none (goes-on-alone h e (requotes-alone h e ne) (periodOf h x past))
+stays h e past exchange none ne = rw none (goes-on-alone h e (requotes-alone h e ne) (periodOf h exchange past))
 
-unreceived : (h : Header) (e : Event) (past : History) (p : Period) (x : ℕ) → (e .kind ≡ receivedKind → ⊥) → executesWhole h past p x e ≡ false
+unreceived : (h : Header) (e : Event) (past : History) (p : Period) (exchange : ℕ) → (e .kind ≡ receivedKind → ⊥) → executesWhole h past p exchange e ≡ false
 unfolding executesWhole
-unreceived h e past p x ne = rw (ne-eqb (e .kind) receivedKind ne)
+unreceived h e past p exchange ne = rw (ne-eqb (e .kind) receivedKind ne)
 
 pub periods-stay : (h : Header) (e : Event) (past : History) (periods : List ℕ) → (e .kind ≡ receivedKind → ⊥) → (e .kind ≡ quoteKind → field e 0 ≡ h .home → ⊥)
     → Periods h past periods → Periods h (e ∷ past) periods
@@ -159,7 +160,7 @@ module _ (r : Rec) (h : Header) (e : Event) (past : History) (reads : Reads e r)
   quote-marks : (p : Period) → goesOn h e p ≡ markedBy (r .row) p
   unfolding goesOn markedBy requotes quotes shownBy
   quote-marks noPeriod = refl
-  quote-marks (begun x) =
+  quote-marks (begun execution) =
       rw (eq-eqb (e .kind) quoteKind k, eq-eqb (field e 0) (h .home) mine, reads .fields 1, reads .fields 2, reads .fields 5)
 
   after-quote : (y : ℕ) → periodOf h y (e ∷ past) ≡ markedBy (r .row) (periodOf h y past)
@@ -167,8 +168,8 @@ module _ (r : Rec) (h : Header) (e : Event) (past : History) (reads : Reads e r)
   after-quote y =
       rw (unreceived h e past (periodOf h y past) y (λ z. omega (arith, k, z))) (quote-marks (periodOf h y past))
 
-pub marking-ends : (r : Rec) (periods : List ℕ) (y : ℕ) (t : List ℕ) → Marking periods y (r .row) t → 8 ≤ y → Requoted r periods t
-marking-ends r periods y t g end =
+pub marking-ends : (r : Rec) (periods : List ℕ) (y : ℕ) (periods2 : List ℕ) → Marking periods y (r .row) periods2 → mostExchanges ≤ y → Requoted r periods periods2
+marking-ends r periods y periods2 g end =
     record {
       tidy = g .tidy;
       kept = λ h e past reads k mine held.
@@ -182,86 +183,86 @@ pub ruleset mark-laws = (shown-by-buy, shown-by-sell, other-series, same-price, 
 
 -- ---- a received order
 
-module _ (type : ℕ) (d : Duty) (x : ℕ) where
-  pub none-begins-none : d ≡ NoDuty x → false ≡ initialOf type d
+module _ (type : ℕ) (d : Duty) (number : ℕ) where
+  pub none-begins-none : d ≡ NoDuty number → false ≡ initialOf type d
   unfolding initialOf dutyAs
   none-begins-none e = rw (e, and-false (type == principalOrder))
 
-  pub whole-begins : d ≡ Whole x → (type == principalOrder) ≡ initialOf type d
+  pub whole-begins : d ≡ Whole number → (type == principalOrder) ≡ initialOf type d
   unfolding initialOf dutyAs
   whole-begins e = rw (e, and-true (type == principalOrder))
 
-  pub least-begins-none : d ≡ AtLeast x → false ≡ initialOf type d
+  pub least-begins-none : d ≡ AtLeast number → false ≡ initialOf type d
   unfolding initialOf dutyAs
   least-begins-none e = rw (e, and-false (type == principalOrder))
 
-module _ (n home : ℕ) (r : Rec) (ok : RecOk n home r) (k : r .kind ≡ receivedKind) (o : Order) (is : OrderIs r o) where
-  pub received-from : 1 ≤ o .other
-  received-from = order-from n home r (ok .received k) o is
+module _ (exchanges home : ℕ) (r : Rec) (ok : RecOk exchanges home r) (k : r .kind ≡ receivedKind) (order : Order) (is : OrderIs r order) where
+  pub received-from : 1 ≤ order .other
+  received-from = order-from exchanges home r (ok .received k) order is
 
-  pub received-to : o .other ≤ n
-  received-to = order-to n home r (ok .received k) o is
+  pub received-to : order .other ≤ exchanges
+  received-to = order-to exchanges home r (ok .received k) order is
 
-  pub received-series : o .series < 32
-  received-series = order-series n home r (ok .received k) o is
+  pub received-series : order .series < manySeries
+  received-series = order-series exchanges home r (ok .received k) order is
 
-  pub received-row : Headed n home → (periods : List ℕ) → Tidy periods → (o .other - 1) * 8 + 8 ≤ length periods
+  pub received-row : Headed exchanges home → (periods : List ℕ) → Tidy periods → (order .other - 1) * 8 + 8 ≤ length periods
   received-row hd periods tidy = omega (arith, received-from, received-to, hd .few, tidy .long)
 
-module _ (q st periods : List ℕ) (n home : ℕ) (sizes : List ℕ) (r : Rec) (hd : Headed n home) (ok : RecOk n home r) (k : r .kind ≡ receivedKind)
-    (tidy : Tidy periods) (o : Order) (is : OrderIs r o) (d : Duty) (judged : InPeriod q st periods n home sizes (r .time) o d) where
-  sender-one : 1 ≤ o .other
-  sender-one = received-from n home r ok k o is
+module _ (quotes statuses periods : List ℕ) (exchanges home : ℕ) (sizes : List ℕ) (r : Rec) (hd : Headed exchanges home) (ok : RecOk exchanges home r) (k : r .kind ≡ receivedKind)
+    (tidy : Tidy periods) (order : Order) (is : OrderIs r order) (d : Duty) (judged : InPeriod quotes statuses periods exchanges home sizes (r .time) order d) where
+  sender-one : 1 ≤ order .other
+  sender-one = received-from exchanges home r ok k order is
 
-  sender-to : o .other ≤ 8
-  sender-to = omega (arith, received-to n home r ok k o is, hd .few)
+  sender-to : order .other ≤ mostExchanges
+  sender-to = omega (arith, received-to exchanges home r ok k order is, hd .few)
 
-  module _ (h : Header) (e : Event) (past : History) (heads : Heads h n home sizes) (reads : Reads e r) (held : Quoted past q) (hs : Statuses past st)
+  module _ (h : Header) (e : Event) (past : History) (heads : Heads h exchanges home sizes) (reads : Reads e r) (held : Quoted past quotes) (hs : Statuses past statuses)
       (stands : Periods h past periods) where
-    same-order : asOrder o ≡ paper.order e
-    same-order = order-is r e reads o is
+    same-order : asOrder order ≡ paper.order e
+    same-order = order-is r e reads order is
 
-    sender-is : (paper.order e) .other ≡ o .other
+    sender-is : (paper.order e) .other ≡ order .other
     unfolding asOrder
     sender-is = sym (ap (λ (z : paper.Order). z .other) same-order)
 
-    type-is : (paper.order e) .type ≡ o .kind
+    type-is : (paper.order e) .type ≡ order .kind
     unfolding asOrder
     type-is = sym (ap (λ (z : paper.Order). z .type) same-order)
 
-    own-row : periodAt periods (o .other - 1) ≡ periodOf h (o .other) past
-    own-row = stands .stands (o .other - 1) (omega (arith, sender-to, sender-one)) ∙ ap (λ x. periodOf h x past) (omega (arith, sender-one))
+    own-row : periodAt periods (order .other - 1) ≡ periodOf h (order .other) past
+    own-row = stands .stands (order .other - 1) (omega (arith, sender-to, sender-one)) ∙ ap (λ exchange. periodOf h exchange past) (omega (arith, sender-one))
 
     -- the verdict
-    verdict-is : dutyAs d ≡ orderIn h past (periodOf h (o .other) past) (e .time) (paper.order e)
+    verdict-is : dutyAs d ≡ orderIn h past (periodOf h (order .other) past) (e .time) (paper.order e)
     verdict-is = rw (← own-row, reads .time, ← same-order) (judged .so h past heads held hs)
 
     pub answer-is : dutyAs d ≡ receivedOrder h past e
     unfolding receivedOrder
-    answer-is = verdict-is ∙ ap (λ x. orderIn h past (periodOf h x past) (e .time) (paper.order e)) (sym sender-is)
+    answer-is = verdict-is ∙ ap (λ exchange. orderIn h past (periodOf h exchange past) (e .time) (paper.order e)) (sym sender-is)
 
     not-a-quote : e .kind ≡ quoteKind → field e 0 ≡ h .home → ⊥
     not-a-quote z _ = omega (arith, z, reads .kind, k)
 
     -- whether an exchange's period begins with it
-    begins : (x : ℕ) → executesWhole h past (periodOf h x past) x e ≡ (o .other == x && initialOf (o .kind) d)
+    begins : (exchange : ℕ) → executesWhole h past (periodOf h exchange past) exchange e ≡ (order .other == exchange && initialOf (order .kind) d)
     unfolding executesWhole asOrder initialOf
-    begins x =
-        byTest (o .other == x)
+    begins exchange =
+        byTest (order .other == exchange)
         (λ z.
-        rw (← eqb-true (o .other) x z, ← verdict-is, eq-eqb (e .kind) receivedKind (reads .kind ∙ k), sender-is, type-is, eq-eqb (o .other) (o .other) refl))
+        rw (← eqb-true (order .other) exchange z, ← verdict-is, eq-eqb (e .kind) receivedKind (reads .kind ∙ k), sender-is, type-is, eq-eqb (order .other) (order .other) refl))
         (λ z. rw (sender-is, z, and-false (e .kind == receivedKind)))
 
     -- where none does
-    none-begins : initialOf (o .kind) d ≡ false → Periods h (e ∷ past) periods
+    none-begins : initialOf (order .kind) d ≡ false → Periods h (e ∷ past) periods
     none-begins not-initial =
         record {
           stands = λ y l.
               stands .stands y l ∙ sym (stays h e past (y + 1) (begins (y + 1) ∙ rw (not-initial, and-false)) not-a-quote);
         }
 
-  module _ (b : Bool) (eb : b ≡ initialOf (o .kind) d) where
-    pub period-kept : not b ≡ true → ReceivedIs q st periods n home sizes r periods d
+  module _ (b : Bool) (eb : b ≡ initialOf (order .kind) d) where
+    pub period-kept : not b ≡ true → ReceivedIs quotes statuses periods exchanges home sizes r periods d
     period-kept z =
         record {
           tidy = tidy;
@@ -269,47 +270,47 @@ module _ (q st periods : List ℕ) (n home : ℕ) (sizes : List ℕ) (r : Rec) (
           kept = λ h e past heads reads held hs stands. none-begins h e past heads reads held hs stands (rw (← eb, not-true b z));
         }
 
-    module _ (z : not b ≡ false) (price : ℕ) (shown : ShownIs q home (o .series) (o .side) price) (t : List ℕ)
-        (p : Put periods t (1 ∷ r .time ∷ getD (r .row) 2 0 ∷ getD (r .row) 3 0 ∷ price ∷ 0 ∷ 0 ∷ 0 ∷ []) (o .other - 1) 8) where
-      begun-here : (h : Header) (e : Event) (past : History) → Heads h n home sizes → Reads e r → Quoted past q → periodAt t (o .other - 1) ≡ begun (executed h past e)
+    module _ (z : not b ≡ false) (price : ℕ) (shown : ShownIs quotes home (order .series) (order .side) price) (periods2 : List ℕ)
+        (p : Put periods periods2 (1 ∷ r .time ∷ getD (r .row) 2 0 ∷ getD (r .row) 3 0 ∷ price ∷ 0 ∷ 0 ∷ 0 ∷ []) (order .other - 1) 8) where
+      begun-here : (h : Header) (e : Event) (past : History) → Heads h exchanges home sizes → Reads e r → Quoted past quotes → periodAt periods2 (order .other - 1) ≡ begun (executed h past e)
       unfolding periodAt shownAt
       begun-here h e past heads reads held =
           rw (p .here 0 (omega arith), p .here 1 (omega arith), p .here 2 (omega arith), p .here 3 (omega arith), p .here 4 (omega arith), p .here 5 (omega arith), reads .time, ← reads .fields 2, ← reads .fields 3, heads .home, shown .so past held, is .series, is .side)
 
-      module _ (h : Header) (e : Event) (past : History) (heads : Heads h n home sizes) (reads : Reads e r) (held : Quoted past q) (hs : Statuses past st)
+      module _ (h : Header) (e : Event) (past : History) (heads : Heads h exchanges home sizes) (reads : Reads e r) (held : Quoted past quotes) (hs : Statuses past statuses)
           (stands : Periods h past periods) where
         -- the sender's row
-        begun-row : periodAt t (o .other - 1) ≡ periodOf h (o .other) (e ∷ past)
+        begun-row : periodAt periods2 (order .other - 1) ≡ periodOf h (order .other) (e ∷ past)
         unfolding periodOf
         begun-row =
-            let begun-by : executesWhole h past (periodOf h (o .other) past) (o .other) e ≡ true =
-            begins h e past heads reads held hs stands (o .other) ∙ rw (eq-eqb (o .other) (o .other) refl, ← eb, not-false b z) in
+            let begun-by : executesWhole h past (periodOf h (order .other) past) (order .other) e ≡ true =
+            begins h e past heads reads held hs stands (order .other) ∙ rw (eq-eqb (order .other) (order .other) refl, ← eb, not-false b z) in
             rw begun-by (begun-here h e past heads reads held)
 
         -- another's
-        left-row : (y : ℕ) → y < 8 → (o .other ≡ y + 1 → ⊥) → periodAt t y ≡ periodOf h (y + 1) (e ∷ past)
+        left-row : (y : ℕ) → y < mostExchanges → (order .other ≡ y + 1 → ⊥) → periodAt periods2 y ≡ periodOf h (y + 1) (e ∷ past)
         left-row y l off =
-            same-row periods t y (λ k m. p .others y k (omega arith) (λ z. off (omega (arith, z, sender-one)))) ∙ stands .stands y l
-            ∙ sym (stays h e past (y + 1) (begins h e past heads reads held hs stands (y + 1) ∙ rw (ne-eqb (o .other) (y + 1) off)) (not-a-quote h e past heads reads held hs stands))
+            same-row periods periods2 y (λ k m. p .others y k (omega arith) (λ z. off (omega (arith, z, sender-one)))) ∙ stands .stands y l
+            ∙ sym (stays h e past (y + 1) (begins h e past heads reads held hs stands (y + 1) ∙ rw (ne-eqb (order .other) (y + 1) off)) (not-a-quote h e past heads reads held hs stands))
 
-        begun-kept : Periods h (e ∷ past) t
+        begun-kept : Periods h (e ∷ past) periods2
         begun-kept =
             record {
               stands = λ y l.
-                  byTest (o .other == y + 1)
+                  byTest (order .other == y + 1)
                   (λ z.
-                  let same = eqb-true (o .other) (y + 1) z in
-                  ap (periodAt t) (omega (arith, same)) ∙ begun-row ∙ ap (λ x. periodOf h x (e ∷ past)) same)
-                  (λ z. left-row y l (eqb-false (o .other) (y + 1) z));
+                  let same = eqb-true (order .other) (y + 1) z in
+                  ap (periodAt periods2) (omega (arith, same)) ∙ begun-row ∙ ap (λ exchange. periodOf h exchange (e ∷ past)) same)
+                  (λ z. left-row y l (eqb-false (order .other) (y + 1) z));
             }
 
-      new-series : (y : ℕ) → y < 8 → periodWord t y 2 < 32
+      new-series : (y : ℕ) → y < mostExchanges → periodWord periods2 y 2 < manySeries
       new-series y l =
-          byTest (y == o .other - 1)
-          (λ z. rw (eqb-true y (o .other - 1) z, p .here 2 (omega arith)) (omega (arith, ok .received k .series)))
-          (λ z. rw (p .others y 2 (omega arith) (eqb-false y (o .other - 1) z)) (tidy .series-low y l))
+          byTest (y == order .other - 1)
+          (λ z. rw (eqb-true y (order .other - 1) z, p .here 2 (omega arith)) (omega (arith, ok .received k .series)))
+          (λ z. rw (p .others y 2 (omega arith) (eqb-false y (order .other - 1) z)) (tidy .series-low y l))
 
-      pub period-begun : ReceivedIs q st periods n home sizes r t d
+      pub period-begun : ReceivedIs quotes statuses periods exchanges home sizes r periods2 d
       period-begun =
           record {
             tidy = record { series-low = new-series; long = p .long ∙ tidy .long };

@@ -5,13 +5,14 @@ use mathlib.Core.List.{List, _∷_}
 use Prim.Native.Nat.{ℕ, _+_, _-_, _*_, _<_, _≤_}
 use lib.ListN.{getD, length}
 use Rattle.rules.specs.Basics.{if_then_else_, _==_, _atMost_}
+use Rattle.rules.specs.Limits.{mostExchanges}
 use Rattle.rules.specs.Header.{Header}
 use Rattle.rules.specs.Record.{Event, field, principalOrder, buy, quoteKind}
 use Rattle.rules.specs.Journal.{History}
 use Rattle.rules.specs.Verdicts.{verdict, executeWhole, executeAtLeast, Execution, Period, noPeriod, begun, bestThere, tooSoon, stillLimited, orderIn, periodOf, receivedOrder}
 use Rattle.rows.specs.Rows.{Reads}
 use Rattle.rows.specs.declared.Rec.{Rec}
-use Rattle.quotes.specs.Tables.{Quoted, Statuses}
+use Rattle.quotes.specs.Tables.{manySeries, Quoted, Statuses}
 use Rattle.orders.specs.Orders.{Heads, asOrder, dutyAs}
 use Rattle.orders.specs.declared.Order.{Order}
 use Rattle.orders.specs.declared.Duty.{Duty}
@@ -35,22 +36,25 @@ periodAt periods y =
       requoted = not (periodWord periods y 5 == 0);
     })
 
+abbrev pub periodWords : ℕ
+periodWords = mostExchanges * 8
+
 pub record Periods (h : Header) (past : History) (periods : List ℕ) : Type 0 where
-  pub stands : (y : ℕ) → y < 8 → periodAt periods y ≡ periodOf h (y + 1) past
+  pub stands : (y : ℕ) → y < mostExchanges → periodAt periods y ≡ periodOf h (y + 1) past
 
 -- what holds of the table alone
 pub record Tidy (periods : List ℕ) : Type 0 where
-  pub series-low : (y : ℕ) → y < 8 → periodWord periods y 2 < 32
-  pub long : length periods ≡ 64
+  pub series-low : (y : ℕ) → y < mostExchanges → periodWord periods y 2 < manySeries
+  pub long : length periods ≡ periodWords
 
 -- ---- an order in a period
 
-pub record BestThereIs (q : List ℕ) (n home series side : ℕ) (b : Bool) : Type 0 where
-  pub so : (h : Header) (past : History) (x : Execution) → h .exchanges ≡ n → h .home ≡ home → x .series ≡ series → x .side ≡ side
-      → Quoted past q → b ≡ bestThere h past x
+pub record BestThereIs (quotes : List ℕ) (exchanges home series side : ℕ) (b : Bool) : Type 0 where
+  pub so : (h : Header) (past : History) (execution : Execution) → h .exchanges ≡ exchanges → h .home ≡ home → execution .series ≡ series → execution .side ≡ side
+      → Quoted past quotes → b ≡ bestThere h past execution
 
-pub record SoonIs (periods q : List ℕ) (n home from time : ℕ) (b : Bool) : Type 0 where
-  pub so : (h : Header) (past : History) → h .exchanges ≡ n → h .home ≡ home → Quoted past q
+pub record SoonIs (periods quotes : List ℕ) (exchanges home from time : ℕ) (b : Bool) : Type 0 where
+  pub so : (h : Header) (past : History) → h .exchanges ≡ exchanges → h .home ≡ home → Quoted past quotes
       → b ≡ tooSoon h past (periodAt periods (from - 1)) time
 
 pub record LimitedIs (periods : List ℕ) (from time : ℕ) (b : Bool) : Type 0 where
@@ -59,9 +63,9 @@ pub record LimitedIs (periods : List ℕ) (from time : ℕ) (b : Bool) : Type 0 
 pub record OwedIs (size firm : ℕ) (d : Duty) : Type 0 where
   pub so : dutyAs d ≡ (if size atMost firm then verdict executeWhole size 0 else verdict executeAtLeast firm 0)
 
-pub record InPeriod (q st periods : List ℕ) (n home : ℕ) (sizes : List ℕ) (time : ℕ) (o : Order) (d : Duty) : Type 0 where
-  pub so : (h : Header) (past : History) → Heads h n home sizes → Quoted past q → Statuses past st
-      → dutyAs d ≡ orderIn h past (periodAt periods (o .other - 1)) time (asOrder o)
+pub record InPeriod (quotes statuses periods : List ℕ) (exchanges home : ℕ) (sizes : List ℕ) (time : ℕ) (order : Order) (d : Duty) : Type 0 where
+  pub so : (h : Header) (past : History) → Heads h exchanges home sizes → Quoted past quotes → Statuses past statuses
+      → dutyAs d ≡ orderIn h past (periodAt periods (order .other - 1)) time (asOrder order)
 
 -- ---- a received order, and the table after it
 
@@ -69,11 +73,11 @@ pub record InPeriod (q st periods : List ℕ) (n home : ℕ) (sizes : List ℕ) 
 unfoldable pub initialOf : ℕ → Duty → Bool
 initialOf type d = type == principalOrder && (dutyAs d) .a == executeWhole
 
-pub record ReceivedIs (q st periods : List ℕ) (n home : ℕ) (sizes : List ℕ) (r : Rec) (periods2 : List ℕ) (d : Duty) : Type 0 where
+pub record ReceivedIs (quotes statuses periods : List ℕ) (exchanges home : ℕ) (sizes : List ℕ) (r : Rec) (periods2 : List ℕ) (d : Duty) : Type 0 where
   pub tidy : Tidy periods2
-  pub so : (h : Header) (e : Event) (past : History) → Heads h n home sizes → Reads e r → Quoted past q → Statuses past st → Periods h past periods
+  pub so : (h : Header) (e : Event) (past : History) → Heads h exchanges home sizes → Reads e r → Quoted past quotes → Statuses past statuses → Periods h past periods
       → dutyAs d ≡ receivedOrder h past e
-  pub kept : (h : Header) (e : Event) (past : History) → Heads h n home sizes → Reads e r → Quoted past q → Statuses past st → Periods h past periods
+  pub kept : (h : Header) (e : Event) (past : History) → Heads h exchanges home sizes → Reads e r → Quoted past quotes → Statuses past statuses → Periods h past periods
       → Periods h (e ∷ past) periods2
 
 -- ---- a home quote
@@ -85,14 +89,14 @@ shownBy row side = if side == buy then getD row 5 0 else getD row 2 0
 -- a period after a home quote
 unfoldable pub markedBy : List ℕ → Period → Period
 markedBy row noPeriod = noPeriod
-markedBy row (begun x) =
+markedBy row (begun execution) =
     begun
     (record {
-      time = x .time;
-      series = x .series;
-      side = x .side;
-      price = x .price;
-      requoted = x .requoted || (getD row 1 0 == x .series && not (shownBy row (x .side) == x .price));
+      time = execution .time;
+      series = execution .series;
+      side = execution .side;
+      price = execution .price;
+      requoted = execution .requoted || (getD row 1 0 == execution .series && not (shownBy row (execution .side) == execution .price));
     })
 
 pub record Marked (periods : List ℕ) (y : ℕ) (row : List ℕ) (periods2 : List ℕ) : Type 0 where
@@ -106,7 +110,7 @@ pub record Marking (periods : List ℕ) (y : ℕ) (row : List ℕ) (periods2 : L
   pub done : (m : ℕ) → m < y → periodAt periods2 m ≡ markedBy row (periodAt periods m)
   pub others : (m : ℕ) → y ≤ m → periodAt periods2 m ≡ periodAt periods m
   pub tidy : Tidy periods2
-  pub low : y ≤ 8
+  pub low : y ≤ mostExchanges
 
 pub record Requoted (r : Rec) (periods periods2 : List ℕ) : Type 0 where
   pub tidy : Tidy periods2

@@ -1,15 +1,21 @@
 // Received orders. A principal order that home had to execute whole, the initial execution, begins a period for its sender:
 // further ones have no duty for 15 seconds, and up to a minute are answered at least in part.
-ghost use Prim.Native.Nat.{_≤_, _<_};
+ghost use Prim.Native.Nat.{_*_, _≤_, _<_};
 ghost use lib.ListN.{length};
 ghost use mathlib.Core.Path.{_≡_};
+ghost use Rattle.rules.specs.Limits.{mostExchanges};
 ghost use Rattle.rules.specs.Record.{receivedKind};
 ghost use Rattle.rows.specs.Rows.{RecOk};
+ghost use Rattle.quotes.specs.Tables.{manySeries};
 ghost use Rattle.orders.specs.Orders.{Headed};
-ghost use Rattle.periods.specs.Periods.{Tidy, BestThereIs, SoonIs, LimitedIs, OwedIs, initialOf, shownBy, Marked, Requoted, InPeriod, ReceivedIs};
+ghost use Rattle.periods.specs.Periods.{periodWords, Tidy, BestThereIs, SoonIs, LimitedIs, OwedIs, initialOf, shownBy, Marked, Requoted, InPeriod, ReceivedIs};
+use limits::Exchanges;
+use limits::FirmSize;
 use orders::Duty;
 use orders::Order;
 use quotes::Quote;
+use quotes::Quotes;
+use quotes::Statuses;
 use rows::Rec;
 use rows::Type;
 use rows::Way;
@@ -37,7 +43,7 @@ impl Period {
     pub const ROW: usize = 8;
 
     // A row for each exchange.
-    pub const ROWS: usize = 8;
+    pub const ROWS: usize = Exchanges::MOST as usize;
 
     pub const WORDS: usize = Period::ROWS * Period::ROW;
 
@@ -49,8 +55,14 @@ impl Period {
 }
 
 // "a price stands there now that is the best"
-fn best_there(quotes: &[u32; 2048], exchanges: usize, home: usize, series: usize, side: u32) -> bool
-    requires { ⌜ Headed exchanges home × (series < 32) ⌝ }
+fn best_there(
+    quotes: &[u32; Quotes::WORDS],
+    exchanges: usize,
+    home: usize,
+    series: usize,
+    side: u32,
+) -> bool
+    requires { ⌜ Headed exchanges home × (series < manySeries) ⌝ }
     ensures { λ b. ⌜ BestThereIs (now (quotes .entry)) exchanges home series side b ⌝ }
 {
     let ours = orders::shown_price(quotes, home, series, side);
@@ -61,7 +73,7 @@ fn best_there(quotes: &[u32; 2048], exchanges: usize, home: usize, series: usize
 // stands there now that is the best"
 fn too_soon(
     periods: &[u32; Period::WORDS],
-    quotes: &[u32; 2048],
+    quotes: &[u32; Quotes::WORDS],
     exchanges: usize,
     home: usize,
     from: usize,
@@ -87,7 +99,7 @@ fn too_soon(
 
 // "After the 15 seconds, up to and including 60,000 ms and only while no such later quote has come, best or not"
 fn still_limited(periods: &[u32; Period::WORDS], from: usize, time: u32) -> bool
-    requires { ⌜ (1 ≤ from) × (from ≤ 8) ⌝ }
+    requires { ⌜ (1 ≤ from) × (from ≤ mostExchanges) ⌝ }
     ensures { λ b. ⌜ LimitedIs (now (periods .entry)) from time b ⌝ }
 {
     let at = (from - 1) * Period::ROW;
@@ -117,34 +129,34 @@ fn owed(size: u32, firm: u32) -> Duty
 
 // "Reason 4 and this answer are judged after 1, 2 and 3."; "P/A orders stay as they are."
 fn order_in(
-    quotes: &[u32; 2048],
-    statuses: &[u32; 8],
+    quotes: &[u32; Quotes::WORDS],
+    statuses: &[u32; Statuses::WORDS],
     periods: &[u32; Period::WORDS],
     exchanges: usize,
     home: usize,
-    sizes: &[u32; 16],
+    sizes: &[u32; FirmSize::WORDS],
     time: u32,
-    o: Order,
+    order: Order,
 ) -> Duty
-    requires { ⌜ Headed exchanges home × ((o .series < 32) × ((1 ≤ o .other) × (o .other ≤ exchanges))) ⌝ }
+    requires { ⌜ Headed exchanges home × ((order .series < manySeries) × ((1 ≤ order .other) × (order .other ≤ exchanges))) ⌝ }
     requires { ⌜ Tidy (now periods) ⌝ }
-    ensures { λ d. ⌜ InPeriod (now (quotes .entry)) (now (statuses .entry)) (now (periods .entry)) exchanges home (now (sizes .entry)) time o d ⌝ }
+    ensures { λ d. ⌜ InPeriod (now (quotes .entry)) (now (statuses .entry)) (now (periods .entry)) exchanges home (now (sizes .entry)) time order d ⌝ }
 {
-    let reason = orders::no_duty(quotes, statuses, exchanges, home, o);
+    let reason = orders::no_duty(quotes, statuses, exchanges, home, order);
     if reason != 0 {
         return Duty::NoDuty(reason);
     }
-    let firm = orders::firm_size(exchanges, home, sizes, o);
-    if o.kind != Type::PRINCIPAL {
-        return owed(o.size, firm);
+    let firm = orders::firm_size(exchanges, home, sizes, order);
+    if order.kind != Type::PRINCIPAL {
+        return owed(order.size, firm);
     }
-    if too_soon(periods, quotes, exchanges, home, o.other, time) {
+    if too_soon(periods, quotes, exchanges, home, order.other, time) {
         return Duty::NoDuty(Duty::TOO_SOON);
     }
-    if still_limited(periods, o.other, time) {
-        return Duty::AtLeast(rows::lesser(o.size, firm));
+    if still_limited(periods, order.other, time) {
+        return Duty::AtLeast(rows::lesser(order.size, firm));
     }
-    owed(o.size, firm)
+    owed(order.size, firm)
 }
 
 // "a principal order that we had to execute whole (the initial execution)". No order but one judged as a first one is answered whole.
@@ -161,28 +173,37 @@ fn is_initial(kind: u32, duty: Duty) -> bool
 // The verdict, and the period that begins with it: "A later whole execution of an order judged as a first one starts a new period in
 // the old one's place."
 pub fn received_order(
-    quotes: &[u32; 2048],
-    statuses: &[u32; 8],
+    quotes: &[u32; Quotes::WORDS],
+    statuses: &[u32; Statuses::WORDS],
     periods: &mut [u32; Period::WORDS],
     exchanges: usize,
     home: usize,
-    sizes: &[u32; 16],
+    sizes: &[u32; FirmSize::WORDS],
     r: Rec,
 ) -> Duty
     requires { ⌜ Headed exchanges home × RecOk exchanges home r ⌝ }
     requires { ⌜ (r .kind ≡ receivedKind) × Tidy (now periods) ⌝ }
     ensures { λ d. ⌜ ReceivedIs (now (quotes .entry)) (now (statuses .entry)) (now (periods .entry)) exchanges home (now (sizes .entry)) r (now (periods .exit)) d ⌝ }
 {
-    let o = orders::order_of(r);
-    let duty = order_in(quotes, statuses, periods, exchanges, home, sizes, r.time, o);
-    if !is_initial(o.kind, duty) {
+    let order = orders::order_of(r);
+    let duty = order_in(
+        quotes,
+        statuses,
+        periods,
+        exchanges,
+        home,
+        sizes,
+        r.time,
+        order,
+    );
+    if !is_initial(order.kind, duty) {
         return duty;
     }
     let row = r.row;
-    let price = orders::shown_price(quotes, home, o.series, o.side);
+    let price = orders::shown_price(quotes, home, order.series, order.side);
     rows::put_row(
         periods,
-        o.other - 1,
+        order.other - 1,
         [1, r.time, row[2], row[3], price, 0, 0, 0],
     );
     duty
@@ -200,7 +221,7 @@ fn shown_by(row: [u32; 8], side: u32) -> u32
 
 // "a later home quote gave another price, or none, on the side of the initial execution in its series"
 fn mark(periods: &mut [u32; Period::WORDS], y: usize, row: [u32; 8])
-    requires { ⌜ (y < 8) × (length (now periods) ≡ 64) ⌝ }
+    requires { ⌜ (y < mostExchanges) × (length (now periods) ≡ periodWords) ⌝ }
     ensures { λ _. ⌜ Marked (now (periods .entry)) y row (now (periods .exit)) ⌝ }
 {
     let at = y * Period::ROW;

@@ -10,11 +10,12 @@ use lib.Dec.{eqb, ltb}
 use lib.ListN.{getD}
 use borrow.Author.Tests.{eq-eqb, ne-eqb, eqb-true, le-ltb}
 use Rattle.rules.specs.Basics.{_==_}
+use Rattle.rules.specs.Limits.{mostExchanges}
 use Rattle.rules.specs.Record.{Quote}
 use Rattle.rules.specs.Journal.{History}
 use Rattle.rules.specs.Prices.{standing, upTo, everyone, highest, lowest, bestBid, bestOffer}
 use Rattle.rules.proofs.Tests.{byTest}
-use Rattle.quotes.specs.Tables.{Quoted}
+use Rattle.quotes.specs.Tables.{manySeries, Quoted}
 use Rattle.prices.specs.Prices.{aboveOf, equalOf, lowerOf, bidOf, offerOf, PlaceIs, BidIs, OfferIs}
 
 -- ---- a price 0 is absent
@@ -85,58 +86,61 @@ lowest-more f (y ∷ xs) x = ap (lowerOf (f y)) (lowest-more f xs x) ∙ lower-a
 -- ---- the away exchanges, one more at the end
 
 abbrev pub others : ℕ → ℕ → Bool
-others home x = not (x == home)
+others home exchange = not (exchange == home)
 
 -- ---- the loops: the best b of the first y exchanges
 
 -- word w of an exchange's row is the number `of` of its standing quote
 abbrev pub Shows : ℕ → (Quote → ℕ) → List ℕ → Type 0
-Shows w of q = (past : History) → Quoted past q → (y s k : ℕ) → y < 8 → s < 32 → PlaceIs y s k → getD q (k + w) 0 ≡ of (standing (suc y) s past)
+Shows w of quotes =
+    (past : History) → Quoted past quotes → (y series k : ℕ) → y < mostExchanges → series < manySeries → PlaceIs y series k → getD quotes (k + w) 0 ≡ of (standing (suc y) series past)
 
-pub bid-shown : (q : List ℕ) → Shows 2 bidOf q
+pub bid-shown : (quotes : List ℕ) → Shows 2 bidOf quotes
 unfolding bidOf
-bid-shown q past held y s k hy hs p = rw (p .is, ← add-one y) (held .bid y s hy hs)
+bid-shown quotes past held y series k hy hs p = rw (p .is, ← add-one y) (held .bid y series hy hs)
 
-pub offer-shown : (q : List ℕ) → Shows 5 offerOf q
+pub offer-shown : (quotes : List ℕ) → Shows 5 offerOf quotes
 unfolding offerOf
-offer-shown q past held y s k hy hs p = rw (p .is, ← add-one y) (held .offer y s hy hs)
+offer-shown quotes past held y series k hy hs p = rw (p .is, ← add-one y) (held .offer y series hy hs)
 
-pub record Best (g : List ℕ → ℕ) (of : Quote → ℕ) (q : List ℕ) (n s y b : ℕ) : Type 0 where
-  pub few : y ≤ n
-  pub so : (past : History) → Quoted past q → b ≡ g (map (λ x. of (standing x s past)) (upTo y))
+pub record Best (g : List ℕ → ℕ) (of : Quote → ℕ) (quotes : List ℕ) (exchanges series y b : ℕ) : Type 0 where
+  pub few : y ≤ exchanges
+  pub so : (past : History) → Quoted past quotes → b ≡ g (map (λ exchange. of (standing exchange series past)) (upTo y))
 
 module _ (g : List ℕ → ℕ) (op : ℕ → ℕ → ℕ) (more : (f : ℕ → ℕ) (xs : List ℕ) (x : ℕ) → g (map f (xs ++ (x ∷ []))) ≡ op (g (map f xs)) (f x))
-    (w : ℕ) (of : Quote → ℕ) (q : List ℕ) (shows : Shows w of q) (n s y b : ℕ) (r : Best g of q n s y b) where
-  best-more : n ≤ 8 → s < 32 → y < n → (k : ℕ) → PlaceIs y s k → Best g of q n s (y + 1) (op b (getD q (k + w) 0))
+    (w : ℕ) (of : Quote → ℕ) (quotes : List ℕ) (shows : Shows w of quotes) (exchanges series y b : ℕ) (r : Best g of quotes exchanges series y b) where
+  best-more : exchanges ≤ mostExchanges → series < manySeries → y < exchanges → (k : ℕ) → PlaceIs y series k → Best g of quotes exchanges series (y + 1) (op b (getD quotes (k + w) 0))
   unfolding upTo
-  best-more n8 s32 l k p =
+  best-more few low l k p =
       record {
         few = omega arith;
         so = λ past held.
-            rw (add-one y, more (λ x. of (standing x s past)) (upTo y) (suc y), ← r .so past held, shows past held y s k (omega arith) s32 p);
+            rw (add-one y, more (λ exchange. of (standing exchange series past)) (upTo y) (suc y), ← r .so past held, shows past held y series k (omega arith) low p);
       }
 
-module _ (q : List ℕ) (n s : ℕ) where
-  pub bid-none : Best highest bidOf q n s 0 0
+module _ (quotes : List ℕ) (exchanges series : ℕ) where
+  pub bid-none : Best highest bidOf quotes exchanges series 0 0
   unfolding upTo highest
   bid-none = record { few = omega arith; so = λ past held. refl }
 
-  pub offer-none : Best lowest offerOf q n s 0 0
+  pub offer-none : Best lowest offerOf quotes exchanges series 0 0
   unfolding upTo lowest
   offer-none = record { few = omega arith; so = λ past held. refl }
 
   module _ (y b : ℕ) where
-    pub bid-more : Best highest bidOf q n s y b → n ≤ 8 → s < 32 → y < n → (k : ℕ) → PlaceIs y s k → (b2 : ℕ) → b2 ≡ max b (getD q (k + 2) 0) → Best highest bidOf q n s (y + 1) b2
-    bid-more r n8 s32 l k p b2 e = rw e (best-more highest max highest-more 2 bidOf q (bid-shown q) n s y b r n8 s32 l k p)
+    pub bid-more : Best highest bidOf quotes exchanges series y b → exchanges ≤ mostExchanges → series < manySeries → y < exchanges → (k : ℕ) → PlaceIs y series k
+        → (b2 : ℕ) → b2 ≡ max b (getD quotes (k + 2) 0) → Best highest bidOf quotes exchanges series (y + 1) b2
+    bid-more r few low l k p b2 e = rw e (best-more highest max highest-more 2 bidOf quotes (bid-shown quotes) exchanges series y b r few low l k p)
 
-    pub offer-more : Best lowest offerOf q n s y b → n ≤ 8 → s < 32 → y < n → (k : ℕ) → PlaceIs y s k → (b2 : ℕ) → b2 ≡ lowerOf b (getD q (k + 5) 0) → Best lowest offerOf q n s (y + 1) b2
-    offer-more r n8 s32 l k p b2 e = rw e (best-more lowest lowerOf lowest-more 5 offerOf q (offer-shown q) n s y b r n8 s32 l k p)
+    pub offer-more : Best lowest offerOf quotes exchanges series y b → exchanges ≤ mostExchanges → series < manySeries → y < exchanges → (k : ℕ) → PlaceIs y series k
+        → (b2 : ℕ) → b2 ≡ lowerOf b (getD quotes (k + 5) 0) → Best lowest offerOf quotes exchanges series (y + 1) b2
+    offer-more r few low l k p b2 e = rw e (best-more lowest lowerOf lowest-more 5 offerOf quotes (offer-shown quotes) exchanges series y b r few low l k p)
 
-    pub bid-all : Best highest bidOf q n s y b → n ≤ y → BidIs q n s b
+    pub bid-all : Best highest bidOf quotes exchanges series y b → exchanges ≤ y → BidIs quotes exchanges series b
     unfolding bestBid everyone bidOf
     bid-all r l = record { so = λ h past en held. let k : h .exchanges ≡ y = omega (arith, r .few) in rw k (r .so past held) }
 
-    pub offer-all : Best lowest offerOf q n s y b → n ≤ y → OfferIs q n s b
+    pub offer-all : Best lowest offerOf quotes exchanges series y b → exchanges ≤ y → OfferIs quotes exchanges series b
     unfolding bestOffer everyone offerOf
     offer-all r l = record { so = λ h past en held. let k : h .exchanges ≡ y = omega (arith, r .few) in rw k (r .so past held) }
 

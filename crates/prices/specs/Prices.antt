@@ -2,12 +2,12 @@
 use mathlib.Core.Path.{_≡_}
 use mathlib.Core.Bool.{Bool}
 use mathlib.Core.List.{List}
-use Prim.Native.Nat.{ℕ, _+_, _*_, _≤_}
+use Prim.Native.Nat.{ℕ, _+_, _-_, _*_, _≤_}
 use Rattle.rules.specs.Header.{Header}
 use Rattle.rules.specs.Record.{Quote}
 use Rattle.rules.specs.Journal.{History}
 use Rattle.rules.specs.Prices.{_isAbove_, _equals_, lower, bestBid, bestOffer}
-use Rattle.quotes.specs.Tables.{Quoted}
+use Rattle.quotes.specs.Tables.{manySeries, quoteWords, Quoted}
 
 unfoldable pub aboveOf : ℕ → ℕ → Bool
 aboveOf a b = a isAbove b
@@ -24,15 +24,15 @@ bidOf k = k .bid
 unfoldable pub offerOf : Quote → ℕ
 offerOf k = k .offer
 
--- where the row of exchange y + 1 in series s begins
-pub record PlaceIs (y s k : ℕ) : Type 0 where
-  pub is : k ≡ (y * 32 + s) * 8
-  pub small : k ≤ 2040
+-- where the row of exchange y + 1 in a series begins
+pub record PlaceIs (y series k : ℕ) : Type 0 where
+  pub is : k ≡ (y * manySeries + series) * 8
+  pub small : k ≤ quoteWords - 8
 
 -- ---- the answers, of every history that the table holds
 
-pub record BidIs (q : List ℕ) (n s r : ℕ) : Type 0 where
-  pub so : (h : Header) (past : History) → h .exchanges ≡ n → Quoted past q → r ≡ bestBid h s past
+pub record BidIs (quotes : List ℕ) (exchanges series r : ℕ) : Type 0 where
+  pub so : (h : Header) (past : History) → h .exchanges ≡ exchanges → Quoted past quotes → r ≡ bestBid h series past
 
-pub record OfferIs (q : List ℕ) (n s r : ℕ) : Type 0 where
-  pub so : (h : Header) (past : History) → h .exchanges ≡ n → Quoted past q → r ≡ bestOffer h s past
+pub record OfferIs (quotes : List ℕ) (exchanges series r : ℕ) : Type 0 where
+  pub so : (h : Header) (past : History) → h .exchanges ≡ exchanges → Quoted past quotes → r ≡ bestOffer h series past

@@ -1,8 +1,11 @@
 // Prices against each other, and the best of them, out of the table of quotes.
 ghost use mathlib.Core.Path.{_≡_};
 ghost use Prim.Native.Nat.{_≤_, _<_, max};
+ghost use Rattle.rules.specs.Limits.{mostExchanges};
+ghost use Rattle.quotes.specs.Tables.{manySeries};
 ghost use Rattle.prices.specs.Prices.{aboveOf, equalOf, lowerOf, PlaceIs, BidIs, OfferIs};
 use quotes::Quote;
+use quotes::Quotes;
 
 // The sides of a quote.
 pub struct Side;
@@ -57,35 +60,35 @@ fn lower(a: u32, b: u32) -> u32
 
 // Where the row of exchange y + 1 in a series begins.
 pub fn place(y: usize, series: usize) -> usize
-    requires { ⌜ (y < 8) × (series < 32) ⌝ }
+    requires { ⌜ (y < mostExchanges) × (series < manySeries) ⌝ }
     ensures { λ k. ⌜ PlaceIs y series k ⌝ }
 {
     quotes::row_of(y + 1, series) * Quote::WORDS
 }
 
-pub fn best_bid(q: &[u32; 2048], n: usize, series: usize) -> u32
-    requires { ⌜ (n ≤ 8) × (series < 32) ⌝ }
-    ensures { λ r. ⌜ BidIs (now (q .entry)) n series r ⌝ }
+pub fn best_bid(quotes: &[u32; Quotes::WORDS], exchanges: usize, series: usize) -> u32
+    requires { ⌜ (exchanges ≤ mostExchanges) × (series < manySeries) ⌝ }
+    ensures { λ r. ⌜ BidIs (now (quotes .entry)) exchanges series r ⌝ }
 {
     let mut y: usize = 0;
     let mut highest: u32 = 0;
-    while y < n {
+    while y < exchanges {
         let k = place(y, series);
-        highest = higher(highest, q[k + Quote::BID]);
+        highest = higher(highest, quotes[k + Quote::BID]);
         y += 1;
     }
     highest
 }
 
-pub fn best_offer(q: &[u32; 2048], n: usize, series: usize) -> u32
-    requires { ⌜ (n ≤ 8) × (series < 32) ⌝ }
-    ensures { λ r. ⌜ OfferIs (now (q .entry)) n series r ⌝ }
+pub fn best_offer(quotes: &[u32; Quotes::WORDS], exchanges: usize, series: usize) -> u32
+    requires { ⌜ (exchanges ≤ mostExchanges) × (series < manySeries) ⌝ }
+    ensures { λ r. ⌜ OfferIs (now (quotes .entry)) exchanges series r ⌝ }
 {
     let mut y: usize = 0;
     let mut lowest: u32 = 0;
-    while y < n {
+    while y < exchanges {
         let k = place(y, series);
-        lowest = lower(lowest, q[k + Quote::OFFER]);
+        lowest = lower(lowest, quotes[k + Quote::OFFER]);
         y += 1;
     }
     lowest

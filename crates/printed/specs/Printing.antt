@@ -19,11 +19,11 @@ use Rattle.printed.specs.declared.Shown.{Shown}
 -- ---- our own sheet
 
 abbrev pub tableLine : List ℕ → List ℕ → ℕ → SheetLine
-tableLine cl fills k =
-    record { reason = getD cl (k * 8 + 2) 0; filled = getD fills k 0; cancelled = getD cl (k * 8 + 1) 0 - getD fills k 0 }
+tableLine claims fills k =
+    record { reason = getD claims (k * 8 + 2) 0; filled = getD fills k 0; cancelled = getD claims (k * 8 + 1) 0 - getD fills k 0 }
 
 unfoldable pub sheetFrom : List ℕ → List ℕ → ℕ → List SheetLine
-sheetFrom cl fills n = map (tableLine cl fills) (below n)
+sheetFrom claims fills lines = map (tableLine claims fills) (below lines)
 
 -- ---- the list printed
 
@@ -36,6 +36,6 @@ pub record OrderShown (own : List SheetLine) (event line : ℕ) (r : Shown) : Ty
 pub record RowShown (own : List SheetLine) (list : List ℕ) (i : ℕ) (r : Shown) : Type 0 where
   pub says : shownText r ≡ rowText own list i
 
-pub record Prints (list : List ℕ) (n : ℕ) (cl fills : List ℕ) (lines : ℕ) (before : List ℕ) (r : Written) (after : List ℕ) : Type 0 where
-  pub so : (d : DayRecords) (tr : List ℕ) (trades : ℕ) → Books (journalOf d) tr cl trades lines → OwnFilled (journalOf d) fills → DayListing d list n
+pub record Prints (list : List ℕ) (listed : ℕ) (claims fills : List ℕ) (lines : ℕ) (before : List ℕ) (r : Written) (after : List ℕ) : Type 0 where
+  pub so : (d : DayRecords) (trades : List ℕ) (traded : ℕ) → Books (journalOf d) trades claims traded lines → OwnFilled (journalOf d) fills → DayListing d list listed
       → (asAnswer r ≡ counted (into (length before) (dayText d))) × (after ≡ lentAfter (into (length before) (dayText d)) before)

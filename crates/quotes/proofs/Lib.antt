@@ -1,2 +1,2 @@
-pub mod Quotes
-pub mod Statuses
+pub mod QuoteLaws
+pub mod StatusLaws

@@ -13,6 +13,56 @@ use rows::Complex;
 use rows::Minutes;
 use rows::Status;
 
+// The reasons on a Satisfaction Order, in the order in which they are judged: "first that holds".
+pub struct Reason;
+
+impl Reason {
+    // "10 sender not traded through"
+    pub const NOT_TRADED_THROUGH: u32 = 10;
+
+    // "2 home had sent the sender an order in the series"
+    pub const HAD_SENT: u32 = 2;
+
+    // "3 sender non-firm"
+    pub const SENDER_NON_FIRM: u32 = 3;
+
+    // "4 no initiator and home non-firm"
+    pub const HOME_NON_FIRM: u32 = 4;
+
+    // "5 sender in rotation"
+    pub const SENDER_IN_ROTATION: u32 = 5;
+
+    // "6 home in rotation"
+    pub const HOME_IN_ROTATION: u32 = 6;
+
+    // "7 complex"
+    pub const COMPLEX: u32 = 7;
+
+    // "8 no initiator and received later than the report plus 180,000 ms, or plus 60,000"
+    pub const LATE: u32 = 8;
+
+    // "reason 15: later than 180,000 ms after the cancellation; 15 stands in 8's place"
+    pub const LATE_AGAIN: u32 = 15;
+
+    // "9 an initiator and later than the report plus 180,000"
+    pub const LATE_WITH_INITIATOR: u32 = 9;
+
+    // "A cancellation in time makes reason 14": the initiator is named.
+    pub const INITIATOR_NAMED: u32 = 14;
+
+    // "11 price is the trade's and the trade is no block"
+    pub const PRICED_AS_BLOCK: u32 = 11;
+
+    // "12 price is not the one required"
+    pub const NOT_THE_PRICE_REQUIRED: u32 = 12;
+
+    // "13 no customer contracts"
+    pub const NO_CUSTOMERS: u32 = 13;
+
+    // "0 none of these"
+    pub const NONE: u32 = 0;
+}
+
 // How long after the report a Satisfaction Order may come, how long after that it may be cancelled, and how long after that it may be
 // sent again.
 pub struct Receipt;
@@ -109,27 +159,27 @@ fn trade_reason(
     ensures { λ r. ⌜ r ≡ tradeReason side excuser status home initiator complex ⌝ }
 {
     if side == Side::NEITHER {
-        return 10;
+        return Reason::NOT_TRADED_THROUGH;
     }
     if excuser != 0 {
-        return 2;
+        return Reason::HAD_SENT;
     }
     if status == Status::NON_FIRM {
-        return 3;
+        return Reason::SENDER_NON_FIRM;
     }
     if both(initiator == 0, home == Status::NON_FIRM) {
-        return 4;
+        return Reason::HOME_NON_FIRM;
     }
     if status == Status::ROTATION {
-        return 5;
+        return Reason::SENDER_IN_ROTATION;
     }
     if home == Status::ROTATION {
-        return 6;
+        return Reason::HOME_IN_ROTATION;
     }
     if complex == Complex::YES {
-        return 7;
+        return Reason::COMPLEX;
     }
-    0
+    Reason::NONE
 }
 
 // "8 no initiator and received later than the report plus 180,000 ms, or plus 60,000 .. 9 an initiator and later than the report
@@ -139,12 +189,12 @@ fn late_reason(initiator: u32, report: u32, close: u32, time: u32) -> u32
 {
     let late = later_than(report, allowed(initiator, report, close), time);
     if both(initiator == 0, late) {
-        return 8;
+        return Reason::LATE;
     }
     if both(initiator != 0, late) {
-        return 9;
+        return Reason::LATE_WITH_INITIATOR;
     }
-    0
+    Reason::NONE
 }
 
 // "reason 15: later than 180,000 ms after the cancellation"
@@ -152,9 +202,9 @@ fn again_reason(cancelled: u32, time: u32) -> u32
     ensures { λ r. ⌜ r ≡ againReason cancelled time ⌝ }
 {
     if later_than(cancelled, Receipt::THREE_MINUTES, time) {
-        return 15;
+        return Reason::LATE_AGAIN;
     }
-    0
+    Reason::NONE
 }
 
 // "The second is not judged by 8 or 9 but by reason 15".
@@ -172,51 +222,67 @@ fn price_reason(asked: u32, price: u32, block: u32, there: u32, customers: u32) 
     ensures { λ r. ⌜ r ≡ priceReason asked price block there customers ⌝ }
 {
     if both(asked == price, block != 1) {
-        return 11;
+        return Reason::PRICED_AS_BLOCK;
     }
     if asked != required(block, price, there) {
-        return 12;
+        return Reason::NOT_THE_PRICE_REQUIRED;
     }
     if customers == 0 {
-        return 13;
+        return Reason::NO_CUSTOMERS;
     }
-    0
+    Reason::NONE
 }
 
 // "first that holds"; 0 none of these
-pub fn reason_of(k: Facts) -> u32
-    ensures { λ r. ⌜ r ≡ reasonOf k ⌝ }
+pub fn reason_of(facts: Facts) -> u32
+    ensures { λ r. ⌜ r ≡ reasonOf facts ⌝ }
 {
-    let by_trade = trade_reason(k.side, k.excuser, k.status, k.home, k.initiator, k.complex);
-    if by_trade != 0 {
+    let by_trade = trade_reason(
+        facts.side,
+        facts.excuser,
+        facts.status,
+        facts.home,
+        facts.initiator,
+        facts.complex,
+    );
+    if by_trade != Reason::NONE {
         return by_trade;
     }
-    let by_time = time_reason(k.again, k.initiator, k.report, k.close, k.time);
-    if by_time != 0 {
+    let by_time = time_reason(
+        facts.again,
+        facts.initiator,
+        facts.report,
+        facts.close,
+        facts.time,
+    );
+    if by_time != Reason::NONE {
         return by_time;
     }
-    price_reason(k.asked, k.price, k.block, k.there, k.customers)
+    price_reason(
+        facts.asked,
+        facts.price,
+        facts.block,
+        facts.there,
+        facts.customers,
+    )
 }
 
 // An order that was cancelled in time, with its initiator named.
 pub struct Naming;
 
 impl Naming {
-    // "A cancellation in time makes reason 14"
-    pub const REASON: u32 = 14;
-
     // "judged after 9 and before 11": the first and the last of those that give way to it. 15 stands "in 8's place".
-    pub const BEFORE: u32 = 11;
+    pub const BEFORE: u32 = Reason::PRICED_AS_BLOCK;
 
-    pub const LAST: u32 = 13;
+    pub const LAST: u32 = Reason::NO_CUSTOMERS;
 }
 
 // The reason on an order that was cancelled in time, by the one that it would have.
 pub fn named(why: u32) -> u32
     ensures { λ r. ⌜ r ≡ named why ⌝ }
 {
-    if why == 0 {
-        return Naming::REASON;
+    if why == Reason::NONE {
+        return Reason::INITIATOR_NAMED;
     }
     if why < Naming::BEFORE {
         return why;
@@ -224,7 +290,7 @@ pub fn named(why: u32) -> u32
     if Naming::LAST < why {
         return why;
     }
-    Naming::REASON
+    Reason::INITIATOR_NAMED
 }
 
 // "the least of order size, customer contracts and trade size"
@@ -256,7 +322,7 @@ fn limited(closing: u32, claim: u32) -> u32
 pub fn claim_of(why: u32, size: u32, customers: u32, traded: u32, closing: u32) -> u32
     ensures { λ r. ⌜ r ≡ claimOf why size customers traded closing ⌝ }
 {
-    if why == 0 {
+    if why == Reason::NONE {
         return limited(closing, least_of(size, customers, traded));
     }
     0

@@ -4,12 +4,13 @@ use mathlib.Core.List.{List, [], _∷_, _++_}
 use Prim.Native.Nat.{ℕ, zero, suc, _+_, _-_, _*_, _≤_, _<_}
 use lib.ListN.{getD, length}
 use Rattle.rules.specs.Basics.{Answer, refused, ok}
+use Rattle.rules.specs.Limits.{mostSatisfactionOrders}
 use Rattle.rules.specs.Refusals.{notThreeEach}
 use Rattle.rules.specs.Number.{startOf}
 use Rattle.rules.specs.OwnSheet.{SheetLine}
 use Rattle.rules.specs.SheetCheck.{sheetLines}
 use Rattle.number.specs.Reading.{spotAt}
-use Rattle.numbers.specs.Rows.{Many, all, cut, manyAt}
+use Rattle.several.specs.Rows.{Many, all, cut, manyAt}
 use Rattle.said.specs.declared.Checked.{Checked}
 use Rattle.said.specs.declared.Checked.the-variants.{Accepted, Refused}
 use Rattle.said.specs.declared.Reach.{Reach}
@@ -28,7 +29,7 @@ asThree (all ns next) = Read (getD ns 0 0) (getD ns 1 0) (getD ns 2 0) next
 asThree (cut place) = Cut place
 
 unfoldable pub threeAt : List ℕ → ℕ → Three
-threeAt s at = asThree (manyAt 3 s at)
+threeAt sheet at = asThree (manyAt 3 sheet at)
 
 -- ---- the lines
 
@@ -42,12 +43,12 @@ saidLine said i =
 
 -- the lines that a read sheet says, or its refusal
 abbrev pub linesRead : Checked → List ℕ → ℕ → Answer (List SheetLine)
-linesRead Accepted said n = ok (each (saidLine said) 0 n)
-linesRead (Refused number place) said n = refused number place
+linesRead Accepted said lines = ok (each (saidLine said) 0 lines)
+linesRead (Refused number place) said lines = refused number place
 
-pub record SheetRead (sheet : List ℕ) (n : ℕ) (said : List ℕ) (r : Checked) : Type 0 where
-  pub is : linesRead r said n ≡ sheetLines n (startOf sheet)
-  pub long : length said ≡ 1536
+pub record SheetRead (sheet : List ℕ) (lines : ℕ) (said : List ℕ) (r : Checked) : Type 0 where
+  pub is : linesRead r said lines ≡ sheetLines lines (startOf sheet)
+  pub long : length said ≡ mostSatisfactionOrders * 3
 
 -- these lines before those still to be read
 abbrev pub behind : List SheetLine → Answer (List SheetLine) → Answer (List SheetLine)
@@ -55,13 +56,13 @@ behind done (refused number place) = refused number place
 behind done (ok more) = ok (done ++ more)
 
 -- the first i lines are read, up to a place
-pub record SheetReading (sheet : List ℕ) (n : ℕ) (said : List ℕ) (at i : ℕ) : Type 0 where
-  pub rest : sheetLines n (startOf sheet) ≡ behind (each (saidLine said) 0 i) (sheetLines (n - i) (spotAt 0 sheet at))
-  pub low : i ≤ n
-  pub long : length said ≡ 1536
+pub record SheetReading (sheet : List ℕ) (lines : ℕ) (said : List ℕ) (at i : ℕ) : Type 0 where
+  pub rest : sheetLines lines (startOf sheet) ≡ behind (each (saidLine said) 0 i) (sheetLines (lines - i) (spotAt 0 sheet at))
+  pub low : i ≤ lines
+  pub long : length said ≡ mostSatisfactionOrders * 3
 
 -- lines below the first that can't be read, or all of them up to a place
-pub record LinesRead (sheet : List ℕ) (n : ℕ) (said : List ℕ) (r : Reach) : Type 0 where
-  pub cut : r .lines < n → SheetRead sheet n said (Refused notThreeEach (r .place))
-  pub whole : n ≤ r .lines → SheetReading sheet n said (r .place) n
-  pub low : r .lines ≤ n
+pub record LinesRead (sheet : List ℕ) (lines : ℕ) (said : List ℕ) (r : Reach) : Type 0 where
+  pub cut : r .lines < lines → SheetRead sheet lines said (Refused notThreeEach (r .place))
+  pub whole : lines ≤ r .lines → SheetReading sheet lines said (r .place) lines
+  pub low : r .lines ≤ lines

@@ -1,10 +1,11 @@
 // What a sheet says, read into memory: three words for each line. Bytes that are not "exactly three readable numbers per Satisfaction
 // Order" are refused here (20).
 ghost use mathlib.Core.Path.{_≡_};
-ghost use Prim.Native.Nat.{_≤_};
+ghost use Prim.Native.Nat.{_*_, _≤_};
 ghost use lib.ListN.{length};
 ghost use Rattle.rules.specs.Limits.{mostSatisfactionOrders};
 ghost use Rattle.said.specs.Said.{threeAt, LinesRead, SheetRead};
+use counted::SatisfactionOrder;
 use number::Field;
 use rows::Refusal;
 
@@ -23,6 +24,8 @@ impl Said {
     pub const FILLED: usize = 1;
 
     pub const CANCELLED: usize = 2;
+
+    pub const WORDS: usize = SatisfactionOrder::MOST * 3;
 }
 
 // One line of a sheet with the place after it, or the place of the number that can't be read.
@@ -41,24 +44,24 @@ fn read_line(sheet: &[u8], at: usize) -> Three
 {
     let Field::Read {
         value: reason,
-        next: p,
+        next: after_reason,
     } = number::read_at(sheet, at)
     else {
         return Three::Cut(at);
     };
     let Field::Read {
         value: filled,
-        next: q,
-    } = number::read_at(sheet, p)
+        next: after_filled,
+    } = number::read_at(sheet, after_reason)
     else {
-        return Three::Cut(p);
+        return Three::Cut(after_reason);
     };
     let Field::Read {
         value: cancelled,
         next,
-    } = number::read_at(sheet, q)
+    } = number::read_at(sheet, after_filled)
     else {
-        return Three::Cut(q);
+        return Three::Cut(after_filled);
     };
     Three::Read {
         reason,
@@ -74,14 +77,14 @@ pub struct Reach {
     pub place: usize,
 }
 
-// The first n lines of a sheet, or those before a number that can't be read.
-pub fn read_lines(sheet: &[u8], n: usize, said: &mut [u32; 1536]) -> Reach
-    requires { ⌜ (n ≤ mostSatisfactionOrders) × (length (now said) ≡ 1536) ⌝ }
-    ensures { λ r. ⌜ LinesRead (now (sheet .entry)) n (now (said .exit)) r ⌝ }
+// The first lines of a sheet, as many as are asked for, or those before a number that can't be read.
+pub fn read_lines(sheet: &[u8], lines: usize, said: &mut [u32; Said::WORDS]) -> Reach
+    requires { ⌜ (lines ≤ mostSatisfactionOrders) × (length (now said) ≡ mostSatisfactionOrders * 3) ⌝ }
+    ensures { λ r. ⌜ LinesRead (now (sheet .entry)) lines (now (said .exit)) r ⌝ }
 {
     let mut at: usize = 0;
     let mut i: usize = 0;
-    while i < n {
+    while i < lines {
         match read_line(sheet, at) {
             Three::Cut(place) => {
                 return Reach { lines: i, place };
@@ -100,20 +103,17 @@ pub fn read_lines(sheet: &[u8], n: usize, said: &mut [u32; 1536]) -> Reach
         }
         i += 1;
     }
-    Reach {
-        lines: n,
-        place: at,
-    }
+    Reach { lines, place: at }
 }
 
 // 20: "exactly three readable numbers per Satisfaction Order". Where the sheet ends too early, no number can be read at its end.
-pub fn read_sheet(sheet: &[u8], n: usize, said: &mut [u32; 1536]) -> Checked
-    requires { ⌜ (n ≤ mostSatisfactionOrders) × (length (now said) ≡ 1536) ⌝ }
-    ensures { λ r. ⌜ SheetRead (now (sheet .entry)) n (now (said .exit)) r ⌝ }
+pub fn read_sheet(sheet: &[u8], lines: usize, said: &mut [u32; Said::WORDS]) -> Checked
+    requires { ⌜ (lines ≤ mostSatisfactionOrders) × (length (now said) ≡ mostSatisfactionOrders * 3) ⌝ }
+    ensures { λ r. ⌜ SheetRead (now (sheet .entry)) lines (now (said .exit)) r ⌝ }
 {
-    let reach = read_lines(sheet, n, said);
+    let reach = read_lines(sheet, lines, said);
     let place = reach.place;
-    if reach.lines < n {
+    if reach.lines < lines {
         return Checked::Refused {
             no: Refusal::NOT_THREE_EACH,
             place,

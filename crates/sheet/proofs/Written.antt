@@ -7,6 +7,7 @@ use mir.Val.{Fits}
 use mir.Syntax.{w64}
 use lib.ListN.{getD, length, take, replicate, length-append, length-replicate}
 use Rattle.rules.specs.Basics.{below, sum}
+use Rattle.rules.specs.Limits.{mostTrades, mostSatisfactionOrders}
 use Rattle.rules.specs.Number.{largest, bytesOf, bytesOfAll}
 use Rattle.rules.specs.Journal.{Journal}
 use Rattle.rules.specs.Due.{Line, lines, ofTrade, claimsOf}
@@ -23,8 +24,8 @@ use Rattle.text.specs.declared.Written.{Written}
 use Rattle.text.specs.declared.Written.the-variants.{To, Refused}
 use Rattle.text.specs.Lent.{Wrote, Takes}
 use Rattle.text.proofs.Lent.{wrote-none, wrote-then, writes-short, writes-all}
-use Rattle.numbers.specs.Numbers.{Small}
-use Rattle.numbers.proofs.Rows.{number-put, number-refused, bytes-of-more}
+use Rattle.several.specs.Numbers.{Small}
+use Rattle.several.proofs.Rows.{number-put, number-refused, bytes-of-more}
 use Rattle.claims.specs.Lines as table
 use Rattle.claims.specs.Lines.{linesFrom, Filing}
 use Rattle.claims.specs.Books.{Books, OwnFilled}
@@ -34,46 +35,46 @@ use Rattle.sheet.specs.Written.{saysAt, threeAt, bytesTo, Stores, Summin
 
 -- ---- one line more
 
-module _ (cl fills : List ℕ) where
-  bytes-none : bytesTo cl fills 0 ≡ []
+module _ (claims fills : List ℕ) where
+  bytes-none : bytesTo claims fills 0 ≡ []
   unfolding bytesTo below sheetBytes flatMap
   bytes-none = refl
 
-  pub bytes-more : (i : ℕ) → bytesTo cl fills (i + 1) ≡ bytesTo cl fills i ++ bytesOfAll (take 3 (threeAt cl fills i))
+  pub bytes-more : (i : ℕ) → bytesTo claims fills (i + 1) ≡ bytesTo claims fills i ++ bytesOfAll (take 3 (threeAt claims fills i))
   unfolding bytesTo sheetBytes lineBytes
-  bytes-more i = ap sheetBytes (one-more-below (saysAt cl fills) i) ∙ flat-more lineBytes (map (saysAt cl fills) (below i)) (saysAt cl fills i)
+  bytes-more i = ap sheetBytes (one-more-below (saysAt claims fills) i) ∙ flat-more lineBytes (map (saysAt claims fills) (below i)) (saysAt claims fills i)
 
-  bytes-grow : (i n : ℕ) → i ≤ n → length (bytesTo cl fills i) ≤ length (bytesTo cl fills n)
-  bytes-grow i n h = fewer-no-longer (bytesTo cl fills) (λ k. bytesOfAll (take 3 (threeAt cl fills k))) n (λ k l. bytes-more k) i h
+  bytes-grow : (i lines : ℕ) → i ≤ lines → length (bytesTo claims fills i) ≤ length (bytesTo claims fills lines)
+  bytes-grow i lines h = fewer-no-longer (bytesTo claims fills) (λ k. bytesOfAll (take 3 (threeAt claims fills k))) lines (λ k l. bytes-more k) i h
 
   -- ---- how many bytes
 
-  module _ (n : ℕ) where
-    pub summing-none : Summing cl fills n 0 0
+  module _ (lines : ℕ) where
+    pub summing-none : Summing claims fills lines 0 0
     summing-none = record { is = ap length (sym bytes-none); small = omega arith; low = omega arith }
 
-    module _ (sum i : ℕ) (s : Summing cl fills n sum i) where
-      pub summed-all : n ≤ i → Takes (bytesTo cl fills n) (n * 12) sum
+    module _ (sum i : ℕ) (s : Summing claims fills lines sum i) where
+      pub summed-all : lines ≤ i → Takes (bytesTo claims fills lines) (lines * 12) sum
       summed-all h =
-          let e : i ≡ n = omega (arith, s .low) in
-          record { exact = subst (λ x. sum ≡ length (bytesTo cl fills x)) e (s .is); bound = omega (arith, s .small) }
+          let e : i ≡ lines = omega (arith, s .low) in
+          record { exact = subst (λ x. sum ≡ length (bytesTo claims fills x)) e (s .is); bound = omega (arith, s .small) }
 
-      module _ (h : i < n) where
-        pub line-known : n ≤ 512 → i < 512
+      module _ (h : i < lines) where
+        pub line-known : lines ≤ mostSatisfactionOrders → i < mostSatisfactionOrders
         line-known few = omega arith
 
-        module _ (row : List ℕ) (is : row ≡ threeAt cl fills i) where
+        module _ (row : List ℕ) (is : row ≡ threeAt claims fills i) where
           pub three-there : 3 ≤ length row
           three-there = rw is (omega arith)
 
           module _ (w : ℕ) (t : Takes (bytesOfAll (take 3 row)) 12 w) where
-            pub summing-fits : n ≤ 512 → Fits w64 (sum + w)
+            pub summing-fits : lines ≤ mostSatisfactionOrders → Fits w64 (sum + w)
             summing-fits few = record { fits = omega (arith, s .small, t .bound) }
 
-            pub summing-more : Summing cl fills n (sum + w) (i + 1)
+            pub summing-more : Summing claims fills lines (sum + w) (i + 1)
             summing-more =
                 record {
-                  is = omega (arith, s .is, t .exact, ap (λ (l : List ℕ). length (bytesOfAll (take 3 l))) is, ap length (bytes-more i), length-append (bytesTo cl fills i) (bytesOfAll (take 3 (threeAt cl fills i))));
+                  is = omega (arith, s .is, t .exact, ap (λ (l : List ℕ). length (bytesOfAll (take 3 l))) is, ap length (bytes-more i), length-append (bytesTo claims fills i) (bytesOfAll (take 3 (threeAt claims fills i))));
                   small = omega (arith, s .small, t .bound);
                   low = omega arith;
                 }
@@ -112,41 +113,41 @@ module _ (s : List ℕ) (at : ℕ) (row d1 : List ℕ) (p1 : ℕ) (a : PutsNumbe
 
 -- ---- line after line
 
-module _ (s cl fills : List ℕ) (n : ℕ) where
-  pub putting-none : Putting s cl fills n s 0 0
-  putting-none = record { so = λ st room. rw (bytes-none cl fills) (wrote-none s 0 (omega arith)); long = refl; low = omega arith }
+module _ (s claims fills : List ℕ) (lines : ℕ) where
+  pub putting-none : Putting s claims fills lines s 0 0
+  putting-none = record { so = λ stores room. rw (bytes-none claims fills) (wrote-none s 0 (omega arith)); long = refl; low = omega arith }
 
-  module _ (out : List ℕ) (p i : ℕ) (w : Putting s cl fills n out p i) where
+  module _ (out : List ℕ) (p i : ℕ) (w : Putting s claims fills lines out p i) where
     pub putting-long : length out ≡ length s
     putting-long = w .long
 
-    pub putting-all : n ≤ i → PutsLines s cl fills n out p
+    pub putting-all : lines ≤ i → PutsLines s claims fills lines out p
     putting-all h =
-        let e : i ≡ n = omega (arith, w .low) in
-        record { so = λ st room. subst (λ x. Wrote s 0 (bytesTo cl fills x) out p) e (w .so st room); long = w .long }
+        let e : i ≡ lines = omega (arith, w .low) in
+        record { so = λ stores room. subst (λ x. Wrote s 0 (bytesTo claims fills x) out p) e (w .so stores room); long = w .long }
 
-    module _ (h : i < n) where
-      pub line-here : n ≤ 512 → i < 512
+    module _ (h : i < lines) where
+      pub line-here : lines ≤ mostSatisfactionOrders → i < mostSatisfactionOrders
       line-here few = omega arith
 
-      pub putting-more : (row : List ℕ) → row ≡ threeAt cl fills i → (out2 : List ℕ) (q : ℕ) → PutsLine out p row out2 q → Putting s cl fills n out2 q (i + 1)
-      putting-more row is out2 q v = record { so = λ st room. more st room (w .so st room); long = v .long ∙ w .long; low = omega arith }
+      pub putting-more : (row : List ℕ) → row ≡ threeAt claims fills i → (out2 : List ℕ) (q : ℕ) → PutsLine out p row out2 q → Putting s claims fills lines out2 q (i + 1)
+      putting-more row is out2 q v = record { so = λ stores room. more stores room (w .so stores room); long = v .long ∙ w .long; low = omega arith }
         where
-          more : Stores cl fills n → length (bytesTo cl fills n) ≤ length s → Wrote s 0 (bytesTo cl fills i) out p → Wrote s 0 (bytesTo cl fills (i + 1)) out2 q
-          more st room w1 =
-              let next = bytes-more cl fills i in
-              let long = ap length next ∙ length-append (bytesTo cl fills i) (bytesOfAll (take 3 (threeAt cl fills i))) in
-              let v1 : PutsLine out p (threeAt cl fills i) out2 q = subst (λ l. PutsLine out p l out2 q) is v in
-              let w2 = v1 .so (st i h) (omega (arith, long, bytes-grow cl fills (i + 1) n (omega arith), w1 .place, w .long)) in
-              rw next (wrote-then s 0 (bytesTo cl fills i) out p (bytesOfAll (take 3 (threeAt cl fills i))) out2 q w1 w2)
+          more : Stores claims fills lines → length (bytesTo claims fills lines) ≤ length s → Wrote s 0 (bytesTo claims fills i) out p → Wrote s 0 (bytesTo claims fills (i + 1)) out2 q
+          more stores room w1 =
+              let next = bytes-more claims fills i in
+              let long = ap length next ∙ length-append (bytesTo claims fills i) (bytesOfAll (take 3 (threeAt claims fills i))) in
+              let v1 : PutsLine out p (threeAt claims fills i) out2 q = subst (λ l. PutsLine out p l out2 q) is v in
+              let w2 = v1 .so (stores i h) (omega (arith, long, bytes-grow claims fills (i + 1) lines (omega arith), w1 .place, w .long)) in
+              rw next (wrote-then s 0 (bytesTo claims fills i) out p (bytesOfAll (take 3 (threeAt claims fills i))) out2 q w1 w2)
 
 pub ruleset put-laws = (puts-number, puts-no-number, puts-line, putting-none, putting-long, putting-all, line-here, putting-more)
 
 -- ---- they are the journal's own sheet
 
-line-from : (cl : List ℕ) (n i : ℕ) → i < n → lineAt (linesFrom cl n) i ≡ table.lineAt cl i
+line-from : (claims : List ℕ) (n i : ℕ) → i < n → lineAt (linesFrom claims n) i ≡ table.lineIn claims i
 unfolding linesFrom
-line-from cl n i h = at-below (table.lineAt cl) _ n i h
+line-from claims n i h = at-below (table.lineIn claims) _ n i h
 
 at-most-sum : (l : List ℕ) (i : ℕ) → getD l i 0 ≤ sum l
 unfolding sum
@@ -154,12 +155,12 @@ at-most-sum [] i = omega arith
 at-most-sum (x ∷ l) zero = omega arith
 at-most-sum (x ∷ l) (suc i) = omega (arith, at-most-sum l i)
 
-module _ (j : Journal) (tr cl : List ℕ) (trades n : ℕ) (b : Books j tr cl trades n) where
-  lines-are : linesFrom cl n ≡ lines j
+module _ (j : Journal) (trades claims : List ℕ) (traded n : ℕ) (b : Books j trades claims traded n) where
+  lines-are : linesFrom claims n ≡ lines j
   unfolding lines
   lines-are = b .lined .lines
 
-  lines-below : map (table.lineAt cl) (below n) ≡ lines j
+  lines-below : map (table.lineIn claims) (below n) ≡ lines j
   unfolding linesFrom
   lines-below = lines-are
 
@@ -167,44 +168,44 @@ module _ (j : Journal) (tr cl : List ℕ) (trades n : ℕ) (b : Books j tr cl tr
   unfolding lines
   many-lines = b .lined .numbered ∙ sym (lines-count (j .header) (j .history) (j .history))
 
-  line-is : (i : ℕ) → i < n → lineAt (lines j) i ≡ table.lineAt cl i
-  line-is i h = ap (λ (ls : List Line). lineAt ls i) (sym lines-are) ∙ line-from cl n i h
+  line-is : (i : ℕ) → i < n → lineAt (lines j) i ≡ table.lineIn claims i
+  line-is i h = ap (λ (ls : List Line). lineAt ls i) (sym lines-are) ∙ line-from claims n i h
 
   module _ (fills : List ℕ) (o : OwnFilled j fills) where
-    says-own : (i : ℕ) → i < n → saysAt cl fills i ≡ ownLine j (table.lineAt cl i)
+    says-own : (i : ℕ) → i < n → saysAt claims fills i ≡ ownLine j (table.lineIn claims i)
     unfolding ownLine
     says-own i h = rw (o .fill-of i (omega (arith, many-lines)), line-is i h)
 
-    pub own-bytes : bytesTo cl fills n ≡ ownSheet j
+    pub own-bytes : bytesTo claims fills n ≡ ownSheet j
     unfolding bytesTo ownSheet ownLines
-    own-bytes = ap sheetBytes (same-below (saysAt cl fills) (λ i. ownLine j (table.lineAt cl i)) n says-own ∙ from)
+    own-bytes = ap sheetBytes (same-below (saysAt claims fills) (λ i. ownLine j (table.lineIn claims i)) n says-own ∙ from)
       where
-        from : map (λ i. ownLine j (table.lineAt cl i)) (below n) ≡ map (ownLine j) (lines j)
-        from = sym (map-map (ownLine j) (table.lineAt cl) (below n)) ∙ ap (map (ownLine j)) lines-below
+        from : map (λ i. ownLine j (table.lineIn claims i)) (below n) ≡ map (ownLine j) (lines j)
+        from = sym (map-map (ownLine j) (table.lineIn claims) (below n)) ∙ ap (map (ownLine j)) lines-below
 
-    module _ (few : trades ≤ 128) where
-      claims-small : (m : ℕ) → m < 128 → sum (claimsOf (ofTrade m (lines j))) ≤ largest
+    module _ (few : traded ≤ mostTrades) where
+      claims-small : (m : ℕ) → m < mostTrades → sum (claimsOf (ofTrade m (lines j))) ≤ largest
       unfolding lines
       claims-small m h = omega (arith, b .lined .sums m h, b .filing .small m h, b .filing .few)
 
       known-at : (i : ℕ) → i < n → LineKnown (j .header) (j .history) (lineAt (lines j) i)
-      known-at i h = by-place (LineKnown (j .header) (j .history)) _ (lines j) (known-in-books j tr cl trades n b) i (omega (arith, many-lines))
+      known-at i h = by-place (LineKnown (j .header) (j .history)) _ (lines j) (known-in-books j trades claims traded n b) i (omega (arith, many-lines))
 
       -- no fill is above what its trade is due
       fill-small : (i : ℕ) → i < n → ownFill j (lineAt (lines j) i) ≤ largest
       fill-small i h =
           let m : ℕ = lineAt (lines j) i .trade in
           let p = line-among-its-trade (lines j) i (omega (arith, many-lines)) in
-          let low : m < 128 = omega (arith, known-at i h .of-a-trade, b .traded .numbered) in
+          let low : m < mostTrades = omega (arith, known-at i h .of-a-trade, b .traded .numbered) in
           let at = own-fill-at j m (p .place) (p .low) (ap (λ (x : Line). x .trade) (p .is)) in
           let same : ownFill j (lineAt (ofTrade m (lines j)) (p .place)) ≡ ownFill j (lineAt (lines j) i) = ap (ownFill j) (p .is) in
-          omega (arith, at, same, at-most-sum (fillsOf (ownShares j m)) (p .place), known-total-is-due j (known-in-books j tr cl trades n b) m, due-at-most-claims j m, claims-small m low)
+          omega (arith, at, same, at-most-sum (fillsOf (ownShares j m)) (p .place), known-total-is-due j (known-in-books j trades claims traded n b) m, due-at-most-claims j m, claims-small m low)
 
       -- every number of our own sheet can be stored
-      own-stores : Stores cl fills n
+      own-stores : Stores claims fills n
       own-stores i h = record { there = omega arith; few = omega arith; storable = each }
         where
-          each : (x : ℕ) → x < 3 → getD (threeAt cl fills i) x 0 ≤ largest
+          each : (x : ℕ) → x < 3 → getD (threeAt claims fills i) x 0 ≤ largest
           each zero hx = let e = ap (λ (l : Line). l .reason) (line-is i h) in omega (arith, e, known-at i h .reason-fits)
           each (suc zero) hx = omega (arith, o .fill-of i (omega (arith, many-lines)), fill-small i h)
           each (suc (suc zero)) hx = let e = ap (λ (l : Line). l .size) (line-is i h) in omega (arith, e, known-at i h .size-fits)
@@ -212,26 +213,26 @@ module _ (j : Journal) (tr cl : List ℕ) (trades n : ℕ) (b : Books j tr cl tr
 
 -- ---- our own sheet, or 9
 
-module _ (cl tr : List ℕ) (trades n : ℕ) (asked : (trades ≤ 128) × Filing cl n) where
-  pub lines-few : n ≤ 512
+module _ (claims trades : List ℕ) (traded lines : ℕ) (asked : (traded ≤ mostTrades) × Filing claims lines) where
+  pub lines-few : lines ≤ mostSatisfactionOrders
   lines-few = asked .1 .few
 
-  module _ (fills : List ℕ) (own : OwnFills cl tr trades n (replicate 512 0) fills) (out : List ℕ) (w : ℕ) (t : Takes (bytesTo cl fills n) (n * 12) w) where
-    filled : (j : Journal) → Books j tr cl trades n → OwnFilled j fills
-    filled j b = own .so j b (length-replicate {A = ℕ} 512 0)
+  module _ (fills : List ℕ) (own : OwnFills claims trades traded lines (replicate mostSatisfactionOrders 0) fills) (out : List ℕ) (w : ℕ) (t : Takes (bytesTo claims fills lines) (lines * 12) w) where
+    filled : (j : Journal) → Books j trades claims traded lines → OwnFilled j fills
+    filled j b = own .so j b (length-replicate {A = ℕ} mostSatisfactionOrders 0)
 
-    bytes : (j : Journal) → Books j tr cl trades n → bytesTo cl fills n ≡ ownSheet j
-    bytes j b = own-bytes j tr cl trades n b fills (filled j b)
+    bytes : (j : Journal) → Books j trades claims traded lines → bytesTo claims fills lines ≡ ownSheet j
+    bytes j b = own-bytes j trades claims traded lines b fills (filled j b)
 
-    pub own-short : length out < w → OwnWritten cl tr trades n out (Refused 9) out
+    pub own-short : length out < w → OwnWritten claims trades traded lines out (Refused 9) out
     own-short h = record { so = λ j b. let v = writes-short out (ownSheet j) w (t .exact ∙ ap length (bytes j b)) h in (v .answer, v .lent) }
 
-    pub own-written : w ≤ length out → (d : List ℕ) (p : ℕ) → PutsLines out cl fills n d p → OwnWritten cl tr trades n out (To p) d
+    pub own-written : w ≤ length out → (d : List ℕ) (p : ℕ) → PutsLines out claims fills lines d p → OwnWritten claims trades traded lines out (To p) d
     own-written h d p v =
         record {
           so =
               λ j b.
-              let all = v .so (own-stores j tr cl trades n b fills (filled j b) (asked .0)) (omega (arith, t .exact)) in
+              let all = v .so (own-stores j trades claims traded lines b fills (filled j b) (asked .0)) (omega (arith, t .exact)) in
               let r = writes-all out (ownSheet j) d p (subst (λ x. Wrote out 0 x d p) (bytes j b) all) in
               (r .answer, r .lent);
         }

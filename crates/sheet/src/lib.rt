@@ -7,58 +7,65 @@ ghost use Rattle.claims.specs.Lines.{manyOf, Filing, Findable};
 ghost use Rattle.sheet.specs.Tables.{Scattered, FillsTrade, OwnFills};
 ghost use Rattle.sheet.specs.Written.{threeAt, bytesTo, PutsNumber, PutsLine, PutsLines, OwnWritten};
 use claims::Line;
+use counted::SatisfactionOrder;
 use rows::Refusal;
 use rows::TradeLines;
 use text::Written;
+use trades::Trades;
 
 // Of trade m's first k lines each gets its fill, at the word of its number.
 fn scatter(
-    cl: &[u32; Line::WORDS],
+    claims: &[u32; Line::WORDS],
     m: usize,
     k: usize,
     fill: &[u32; TradeLines::MOST],
-    fills: &mut [u32; 512],
+    fills: &mut [u32; SatisfactionOrder::MOST],
 )
-    requires { ⌜ Findable (now cl) m ⌝ }
-    requires { ⌜ k ≤ manyOf (now cl) m ⌝ }
-    ensures { λ _. ⌜ Scattered (now (cl .entry)) m (now (fill .entry)) (now (fills .entry)) (now (fills .exit)) k ⌝ }
+    requires { ⌜ Findable (now claims) m ⌝ }
+    requires { ⌜ k ≤ manyOf (now claims) m ⌝ }
+    ensures { λ _. ⌜ Scattered (now (claims .entry)) m (now (fill .entry)) (now (fills .entry)) (now (fills .exit)) k ⌝ }
 {
     let mut i: usize = 0;
     while i < k {
-        let line = claims::line_of(cl, m, i);
+        let line = claims::line_of(claims, m, i);
         fills[line] = fill[i];
         i += 1;
     }
 }
 
 // The due total of trade m shared out among its lines.
-fn fill_trade(cl: &[u32; Line::WORDS], tr: &[u32; 1024], m: usize, fills: &mut [u32; 512])
-    requires { ⌜ Findable (now cl) m ⌝ }
-    ensures { λ _. ⌜ FillsTrade (now (cl .entry)) (now (tr .entry)) m (now (fills .entry)) (now (fills .exit)) ⌝ }
+fn fill_trade(
+    claims: &[u32; Line::WORDS],
+    trades: &[u32; Trades::WORDS],
+    m: usize,
+    fills: &mut [u32; SatisfactionOrder::MOST],
+)
+    requires { ⌜ Findable (now claims) m ⌝ }
+    ensures { λ _. ⌜ FillsTrade (now (claims .entry)) (now (trades .entry)) m (now (fills .entry)) (now (fills .exit)) ⌝ }
 {
     let mut claim = [0u32; TradeLines::MOST];
     let mut customers = [0u32; TradeLines::MOST];
     let mut fill = [0u32; TradeLines::MOST];
-    let k = claims::gather(cl, m, &mut claim, &mut customers);
-    let due = claims::due_total(cl, tr, m);
+    let k = claims::gather(claims, m, &mut claim, &mut customers);
+    let due = claims::due_total(claims, trades, m);
     sharing::share_out(&claim, &customers, k, rows::wide(due), &mut fill);
-    scatter(cl, m, k, &fill, fills);
+    scatter(claims, m, k, &fill, fills);
 }
 
 // What each line is filled in our own sheet.
 pub fn own_fills(
-    cl: &[u32; Line::WORDS],
-    tr: &[u32; 1024],
-    trades: usize,
-    n: usize,
-    fills: &mut [u32; 512],
+    claims: &[u32; Line::WORDS],
+    trades: &[u32; Trades::WORDS],
+    traded: usize,
+    lines: usize,
+    fills: &mut [u32; SatisfactionOrder::MOST],
 )
-    requires { ⌜ (trades ≤ mostTrades) × Filing (now cl) n ⌝ }
-    ensures { λ _. ⌜ OwnFills (now (cl .entry)) (now (tr .entry)) trades n (now (fills .entry)) (now (fills .exit)) ⌝ }
+    requires { ⌜ (traded ≤ mostTrades) × Filing (now claims) lines ⌝ }
+    ensures { λ _. ⌜ OwnFills (now (claims .entry)) (now (trades .entry)) traded lines (now (fills .entry)) (now (fills .exit)) ⌝ }
 {
     let mut m: usize = 0;
-    while m < trades {
-        fill_trade(cl, tr, m, fills);
+    while m < traded {
+        fill_trade(claims, trades, m, fills);
         m += 1;
     }
 }
@@ -74,25 +81,33 @@ fn cancelled(size: u32, filled: u32) -> u32
 }
 
 // "A sheet line: reason, filled, cancelled."
-pub fn own_line(cl: &[u32; Line::WORDS], fills: &[u32; 512], i: usize) -> [u32; 3]
+pub fn own_line(
+    claims: &[u32; Line::WORDS],
+    fills: &[u32; SatisfactionOrder::MOST],
+    i: usize,
+) -> [u32; 3]
     requires { ⌜ i < mostSatisfactionOrders ⌝ }
-    ensures { λ r. ⌜ r ≡ threeAt (now (cl .entry)) (now (fills .entry)) i ⌝ }
+    ensures { λ r. ⌜ r ≡ threeAt (now (claims .entry)) (now (fills .entry)) i ⌝ }
 {
     let filled = fills[i];
-    let rest = cancelled(cl[i * 8 + Line::SIZE], filled);
-    [cl[i * 8 + Line::REASON], filled, rest]
+    let rest = cancelled(claims[i * 8 + Line::SIZE], filled);
+    [claims[i * 8 + Line::REASON], filled, rest]
 }
 
-// How many bytes the n lines take.
-fn sheet_width(cl: &[u32; Line::WORDS], fills: &[u32; 512], n: usize) -> usize
-    requires { ⌜ n ≤ mostSatisfactionOrders ⌝ }
-    ensures { λ r. ⌜ Takes (bytesTo (now (cl .entry)) (now (fills .entry)) n) (n * 12) r ⌝ }
+// How many bytes the lines take.
+fn sheet_width(
+    claims: &[u32; Line::WORDS],
+    fills: &[u32; SatisfactionOrder::MOST],
+    lines: usize,
+) -> usize
+    requires { ⌜ lines ≤ mostSatisfactionOrders ⌝ }
+    ensures { λ r. ⌜ Takes (bytesTo (now (claims .entry)) (now (fills .entry)) lines) (lines * 12) r ⌝ }
 {
     let mut sum: usize = 0;
     let mut i: usize = 0;
-    while i < n {
-        let line = own_line(cl, fills, i);
-        sum += numbers::widths(&line, 3);
+    while i < lines {
+        let line = own_line(claims, fills, i);
+        sum += several::widths(&line, 3);
         i += 1;
     }
     sum
@@ -117,14 +132,19 @@ fn put_line(out: &mut [u8], at: usize, line: [u32; 3]) -> usize
 }
 
 // Line after line; there is room for them.
-fn put_lines(out: &mut [u8], cl: &[u32; Line::WORDS], fills: &[u32; 512], n: usize) -> usize
-    requires { ⌜ n ≤ mostSatisfactionOrders ⌝ }
-    ensures { λ r. ⌜ PutsLines (now (out .entry)) (now (cl .entry)) (now (fills .entry)) n (now (out .exit)) r ⌝ }
+fn put_lines(
+    out: &mut [u8],
+    claims: &[u32; Line::WORDS],
+    fills: &[u32; SatisfactionOrder::MOST],
+    lines: usize,
+) -> usize
+    requires { ⌜ lines ≤ mostSatisfactionOrders ⌝ }
+    ensures { λ r. ⌜ PutsLines (now (out .entry)) (now (claims .entry)) (now (fills .entry)) lines (now (out .exit)) r ⌝ }
 {
     let mut at: usize = 0;
     let mut i: usize = 0;
-    while i < n {
-        let line = own_line(cl, fills, i);
+    while i < lines {
+        let line = own_line(claims, fills, i);
         at = put_line(out, at, line);
         i += 1;
     }
@@ -133,19 +153,19 @@ fn put_lines(out: &mut [u8], cl: &[u32; Line::WORDS], fills: &[u32; 512], n: usi
 
 // Our own sheet of the journal whose tables these are, or 9 and nothing.
 pub fn write_own(
-    cl: &[u32; Line::WORDS],
-    tr: &[u32; 1024],
-    trades: usize,
-    n: usize,
+    claims: &[u32; Line::WORDS],
+    trades: &[u32; Trades::WORDS],
+    traded: usize,
+    lines: usize,
     out: &mut [u8],
 ) -> Written
-    requires { ⌜ (trades ≤ mostTrades) × Filing (now cl) n ⌝ }
-    ensures { λ r. ⌜ OwnWritten (now (cl .entry)) (now (tr .entry)) trades n (now (out .entry)) r (now (out .exit)) ⌝ }
+    requires { ⌜ (traded ≤ mostTrades) × Filing (now claims) lines ⌝ }
+    ensures { λ r. ⌜ OwnWritten (now (claims .entry)) (now (trades .entry)) traded lines (now (out .entry)) r (now (out .exit)) ⌝ }
 {
-    let mut fills = [0u32; 512];
-    own_fills(cl, tr, trades, n, &mut fills);
-    if out.len() < sheet_width(cl, &fills, n) {
+    let mut fills = [0u32; SatisfactionOrder::MOST];
+    own_fills(claims, trades, traded, lines, &mut fills);
+    if out.len() < sheet_width(claims, &fills, lines) {
         return Written::Refused(Refusal::OUTPUT_TOO_SHORT);
     }
-    Written::To(put_lines(out, cl, &fills, n))
+    Written::To(put_lines(out, claims, &fills, lines))
 }

@@ -1,9 +1,12 @@
 // The verdicts on a trade: which away exchanges it trades through, and whether it is a block.
 ghost use mathlib.Core.Path.{_≡_};
 ghost use Prim.Native.Nat.{_*_, _≤_, _<_};
+ghost use Rattle.rules.specs.Limits.{mostExchanges};
+ghost use Rattle.quotes.specs.Tables.{manySeries};
 ghost use Rattle.through.specs.Trades.{throughOf, countsOf, formOf, TradeIs, CountIs, BlockIs, TradePlaced, BlockFound};
 use prices::Side;
 use quotes::Quote;
+use quotes::Quotes;
 use rows::Form;
 use rows::Rec;
 
@@ -25,7 +28,7 @@ impl Block {
 }
 
 pub fn trade_of(r: Rec) -> Trade
-    ensures { λ t. ⌜ TradeIs r t ⌝ }
+    ensures { λ trade. ⌜ TradeIs r trade ⌝ }
 {
     let row = r.row;
     Trade {
@@ -49,10 +52,10 @@ pub fn through_side(bid: u32, offer: u32, price: u32) -> u32
     Side::NEITHER
 }
 
-fn counts(home: usize, x: usize, side: u32) -> usize
-    ensures { λ r. ⌜ (r ≡ countsOf home x side) × (r ≤ 1) ⌝ }
+fn counts(home: usize, exchange: usize, side: u32) -> usize
+    ensures { λ r. ⌜ (r ≡ countsOf home exchange side) × (r ≤ 1) ⌝ }
 {
-    if x == home {
+    if exchange == home {
         return 0;
     }
     if side == Side::NEITHER {
@@ -62,15 +65,24 @@ fn counts(home: usize, x: usize, side: u32) -> usize
 }
 
 // How many away exchanges are traded through.
-pub fn count_through(q: &[u32; 2048], n: usize, home: usize, t: Trade) -> usize
-    requires { ⌜ (n ≤ 8) × (t .series < 32) ⌝ }
-    ensures { λ r. ⌜ CountIs (now (q .entry)) n home t r ⌝ }
+pub fn count_through(
+    quotes: &[u32; Quotes::WORDS],
+    exchanges: usize,
+    home: usize,
+    trade: Trade,
+) -> usize
+    requires { ⌜ (exchanges ≤ mostExchanges) × (trade .series < manySeries) ⌝ }
+    ensures { λ r. ⌜ CountIs (now (quotes .entry)) exchanges home trade r ⌝ }
 {
     let mut count: usize = 0;
     let mut y: usize = 0;
-    while y < n {
-        let k = prices::place(y, t.series);
-        let side = through_side(q[k + Quote::BID], q[k + Quote::OFFER], t.price);
+    while y < exchanges {
+        let k = prices::place(y, trade.series);
+        let side = through_side(
+            quotes[k + Quote::BID],
+            quotes[k + Quote::OFFER],
+            trade.price,
+        );
         count += counts(home, y + 1, side);
         y += 1;
     }
@@ -93,32 +105,38 @@ fn block_form(form: u32) -> bool
 }
 
 // The best prices come last: they take a walk over all exchanges.
-pub fn is_block(q: &[u32; 2048], n: usize, t: Trade) -> bool
-    requires { ⌜ (n ≤ 8) × (t .series < 32) ⌝ }
-    ensures { λ r. ⌜ BlockIs (now (q .entry)) n t r ⌝ }
+pub fn is_block(quotes: &[u32; Quotes::WORDS], exchanges: usize, trade: Trade) -> bool
+    requires { ⌜ (exchanges ≤ mostExchanges) × (trade .series < manySeries) ⌝ }
+    ensures { λ r. ⌜ BlockIs (now (quotes .entry)) exchanges trade r ⌝ }
 {
-    if t.size < Block::LEAST_CONTRACTS {
+    if trade.size < Block::LEAST_CONTRACTS {
         return false;
     }
-    if value(t.price, t.size) < Block::LEAST_VALUE {
+    if value(trade.price, trade.size) < Block::LEAST_VALUE {
         return false;
     }
-    if !block_form(t.form) {
+    if !block_form(trade.form) {
         return false;
     }
-    if prices::is_above(prices::best_bid(q, n, t.series), t.price) {
+    if prices::is_above(
+        prices::best_bid(quotes, exchanges, trade.series),
+        trade.price,
+    ) {
         return true;
     }
-    prices::is_above(t.price, prices::best_offer(q, n, t.series))
+    prices::is_above(
+        trade.price,
+        prices::best_offer(quotes, exchanges, trade.series),
+    )
 }
 
 // Whether a record of any kind is a block trade.
-pub fn found_block(q: &[u32; 2048], n: usize, r: Rec) -> bool
-    requires { ⌜ (n ≤ 8) × TradePlaced r ⌝ }
-    ensures { λ b. ⌜ BlockFound (now (q .entry)) n r b ⌝ }
+pub fn found_block(quotes: &[u32; Quotes::WORDS], exchanges: usize, r: Rec) -> bool
+    requires { ⌜ (exchanges ≤ mostExchanges) × TradePlaced r ⌝ }
+    ensures { λ b. ⌜ BlockFound (now (quotes .entry)) exchanges r b ⌝ }
 {
     if r.kind != Rec::TRADE {
         return false;
     }
-    is_block(q, n, trade_of(r))
+    is_block(quotes, exchanges, trade_of(r))
 }

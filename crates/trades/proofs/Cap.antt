@@ -8,6 +8,7 @@ use native.Mathlib.Numerals.{add-one}
 use lib.ListN.{getD}
 use lib.Seq.{getD-take}
 use Rattle.rules.specs.Basics.{_==_, _moreThan_, any, keep}
+use Rattle.rules.specs.Limits.{mostExchanges}
 use Rattle.rules.specs.Header.{Header, automatic}
 use Rattle.rules.specs.Record.{Trade}
 use Rattle.rules.specs.Journal.{History}
@@ -31,11 +32,11 @@ module _ (f g k : ℕ → Bool) where
 
 -- ---- the header's sizes
 
-size-at : (h : Header) (home exchanges : ℕ) (sizes : List ℕ) (x i : ℕ) → Heads h exchanges home sizes → 1 ≤ x → x ≤ exchanges
-    → i ≡ (x - 1) * 2 → automatic h x ≡ getD sizes i 0
+size-at : (h : Header) (home exchanges : ℕ) (sizes : List ℕ) (exchange i : ℕ) → Heads h exchanges home sizes → 1 ≤ exchange → exchange ≤ exchanges
+    → i ≡ (exchange - 1) * 2 → automatic h exchange ≡ getD sizes i 0
 unfolding automatic
-size-at h home exchanges sizes x i is low high e =
-    rw (is .sizes) (getD-take (2 * exchanges) sizes (2 * (x - 1)) 0 (omega arith) ∙ ap (λ (j : ℕ). getD sizes j 0) (omega arith))
+size-at h home exchanges sizes exchange i is low high e =
+    rw (is .sizes) (getD-take (2 * exchanges) sizes (2 * (exchange - 1)) 0 (omega arith) ∙ ap (λ (j : ℕ). getD sizes j 0) (omega arith))
 
 module _ (h : Header) (before : History) (t : Trade) where
   pub cap-is : capped h before t ≡ cappedTo h before t (h .exchanges)
@@ -53,13 +54,13 @@ module _ (h : Header) (before : History) (t : Trade) where
       let z : i + suc k ≡ i + k + 1 = omega arith in
       rw (z, cap-more (i + k), cap-grows i k p)
 
-module _ (sn : List ℕ) (n home exchanges : ℕ) (sizes : List ℕ) (size : ℕ) (ok : Headed exchanges home) where
-  pub no-cap-yet : NoCap sn n home exchanges sizes size 0
+module _ (shown : List ℕ) (n home exchanges : ℕ) (sizes : List ℕ) (size : ℕ) (ok : Headed exchanges home) where
+  pub no-cap-yet : NoCap shown n home exchanges sizes size 0
   unfolding cappedTo upTo keep any
   no-cap-yet = record { so = λ h before t is sides es. refl; low = omega arith }
 
-  module _ (i : ℕ) (none : NoCap sn n home exchanges sizes size i) where
-    pub no-cap : exchanges ≤ i → CapIs sn n home exchanges sizes size false
+  module _ (i : ℕ) (none : NoCap shown n home exchanges sizes size i) where
+    pub no-cap : exchanges ≤ i → CapIs shown n home exchanges sizes size false
     no-cap g =
         record {
           so =
@@ -69,8 +70,8 @@ module _ (sn : List ℕ) (n home exchanges : ℕ) (sizes : List ℕ) (size : ℕ
         }
 
     module _ (lt : i < exchanges) (b : Bool)
-        (eb : b ≡ caps (i + 1) home (getD sn ((n * 8 + i) * 8 + 0) 0) size (getD sizes ((home - 1) * 2) 0) (getD sizes (i * 2) 0)) where
-      cap-step : (h : Header) (before : History) (t : Trade) → Heads h exchanges home sizes → SidesAre h before t sn n
+        (eb : b ≡ caps (i + 1) home (getD shown ((n * mostExchanges + i) * 8 + 0) 0) size (getD sizes ((home - 1) * 2) 0) (getD sizes (i * 2) 0)) where
+      cap-step : (h : Header) (before : History) (t : Trade) → Heads h exchanges home sizes → SidesAre h before t shown n
           → t .size ≡ size → cappedTo h before t (i + 1) ≡ (cappedTo h before t i || b)
       unfolding customerFirmSize caps
       cap-step h before t is sides es =
@@ -85,14 +86,14 @@ module _ (sn : List ℕ) (n home exchanges : ℕ) (sizes : List ℕ) (size : ℕ
             ← eb,
           )
 
-      pub no-cap-more : b ≡ false → NoCap sn n home exchanges sizes size (i + 1)
+      pub no-cap-more : b ≡ false → NoCap shown n home exchanges sizes size (i + 1)
       no-cap-more p =
           record {
             so = λ h before t is sides es. cap-step h before t is sides es ∙ rw (p, none .so h before t is sides es);
             low = omega arith;
           }
 
-      pub cap-found : b ≡ true → CapIs sn n home exchanges sizes size true
+      pub cap-found : b ≡ true → CapIs shown n home exchanges sizes size true
       cap-found p =
           record {
             so =

@@ -1,4 +1,4 @@
 pub mod Words
 pub mod Cap
 pub mod Snaps
-pub mod Trades
+pub mod TradeLaws

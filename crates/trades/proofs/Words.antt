@@ -35,17 +35,17 @@ pub buy-for-offer : (side : ℕ) → (side ≡ 1 → ⊥) → 1 ≡ excusingSide
 unfolding excusingSide
 buy-for-offer side p = rw (ne-eqb side 1 p)
 
-module _ (x home side size ours theirs : ℕ) where
-  pub home-caps-not : x ≡ home → false ≡ caps x home side size ours theirs
+module _ (exchange home side size ours theirs : ℕ) where
+  pub home-caps-not : exchange ≡ home → false ≡ caps exchange home side size ours theirs
   unfolding caps
-  home-caps-not p = rw (eq-eqb x home p)
+  home-caps-not p = rw (eq-eqb exchange home p)
 
-  pub not-through-caps-not : side ≡ 0 → false ≡ caps x home side size ours theirs
+  pub not-through-caps-not : side ≡ 0 → false ≡ caps exchange home side size ours theirs
   unfolding caps
-  not-through-caps-not p = rw (eq-eqb side 0 p, and-false (not (eqb x home)))
+  not-through-caps-not p = rw (eq-eqb side 0 p, and-false (not (eqb exchange home)))
 
-  pub larger-caps : (x ≡ home → ⊥) → (side ≡ 0 → ⊥) → (l : ℕ) → l ≡ min ours theirs → ltb l size ≡ caps x home side size ours theirs
+  pub larger-caps : (exchange ≡ home → ⊥) → (side ≡ 0 → ⊥) → (l : ℕ) → l ≡ min ours theirs → ltb l size ≡ caps exchange home side size ours theirs
   unfolding caps
-  larger-caps p q l e = rw (ne-eqb x home p, ne-eqb side 0 q, e)
+  larger-caps p q l e = rw (ne-eqb exchange home p, ne-eqb side 0 q, e)
 
 pub ruleset word-laws = (price-of-bid, price-of-offer, customers-of-neither, customers-of-bid, customers-of-offer, sell-for-bid, buy-for-offer, home-caps-not, not-through-caps-not, larger-caps)

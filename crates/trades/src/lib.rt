@@ -1,14 +1,21 @@
 // Trades: what is kept of each, so that its later Satisfaction Orders are judged by the prices, customer contracts and statuses at the trade.
 ghost use mathlib.Core.Path.{_≡_};
 ghost use Prim.Native.Nat.{_+_, _*_, _<_, _≤_};
-ghost use Rattle.rules.specs.Limits.{mostTrades};
-ghost use Rattle.quotes.specs.Tables.{Within};
+ghost use Rattle.rules.specs.Limits.{mostExchanges, mostTrades};
+ghost use Rattle.quotes.specs.Tables.{manySeries, Within};
 ghost use Rattle.orders.specs.Orders.{Headed};
 ghost use Rattle.excuses.specs.Excuses.{Chains};
-ghost use Rattle.trades.specs.Trades.{priceOn, customersOn, excusingSide, caps, ExcuseIs, Snapped, Snaps, CapIs, Placed, TradesStep};
+ghost use Rattle.trades.specs.Trades.{priceOn, customersOn, excusingSide, caps, ExcuseIs, Snapped, Snaps, CapIs, FitsTrades, TradesStep};
+use counted::Counts;
+use counted::Trade;
+use excuses::Chain;
+use excuses::Orders;
+use limits::Exchanges;
+use limits::FirmSize;
 use prices::Side;
 use quotes::Quote;
-use rows::Numbers;
+use quotes::Quotes;
+use quotes::Statuses;
 use rows::Rec;
 use rows::Seat;
 use rows::Way;
@@ -57,6 +64,20 @@ impl Snap {
     pub const SERIES: usize = 5;
 }
 
+// The table of trades: a row of eight words for each.
+pub struct Trades;
+
+impl Trades {
+    pub const WORDS: usize = Trade::MOST * 8;
+}
+
+// What each exchange showed at each trade: a row of eight words for each of both.
+pub struct Shown;
+
+impl Shown {
+    pub const WORDS: usize = Trade::MOST * Exchanges::MOST as usize * 8;
+}
+
 fn price_on(side: u32, bid: u32, offer: u32) -> u32
     ensures { λ r. ⌜ r ≡ priceOn side bid offer ⌝ }
 {
@@ -83,57 +104,65 @@ fn excusing_side(side: u32) -> u32
     }
 }
 
-// What excuses home at exchange x, asked only where the trade went through it.
+// What excuses home at an exchange, asked only where the trade went through it.
 fn excuse(
-    t: &[u32; 2048],
-    ch: &[u32; 512],
-    orders: usize,
+    orders: &[u32; Orders::WORDS],
+    chains: &[u32; Chain::WORDS],
+    sent: usize,
     side: u32,
-    x: usize,
-    s: usize,
+    exchange: usize,
+    series: usize,
     time: u32,
 ) -> u32
-    requires { ⌜ Within x s ⌝ }
-    requires { ⌜ Chains (now t) (now ch) orders ⌝ }
-    ensures { λ r. ⌜ ExcuseIs (now (t .entry)) orders side x s time r ⌝ }
+    requires { ⌜ Within exchange series ⌝ }
+    requires { ⌜ Chains (now orders) (now chains) sent ⌝ }
+    ensures { λ r. ⌜ ExcuseIs (now (orders .entry)) sent side exchange series time r ⌝ }
 {
     if side == Side::NEITHER {
         return 0;
     }
-    excuses::excuser(t, ch, orders, x, s, excusing_side(side), time)
+    excuses::excuser(
+        orders,
+        chains,
+        sent,
+        exchange,
+        series,
+        excusing_side(side),
+        time,
+    )
 }
 
 // What is kept of exchange y + 1 at a trade.
 fn snap_row(
-    q: &[u32; 2048],
-    st: &[u32; 8],
-    t: &[u32; 2048],
-    ch: &[u32; 512],
-    orders: usize,
+    quotes: &[u32; Quotes::WORDS],
+    statuses: &[u32; Statuses::WORDS],
+    orders: &[u32; Orders::WORDS],
+    chains: &[u32; Chain::WORDS],
+    sent: usize,
     y: usize,
-    s: usize,
+    series: usize,
     price: u32,
     time: u32,
 ) -> [u32; 8]
-    requires { ⌜ (y < 8) × (s < 32) ⌝ }
-    requires { ⌜ Chains (now t) (now ch) orders ⌝ }
-    ensures { λ r. ⌜ Snapped (now (q .entry)) (now (st .entry)) (now (t .entry)) orders y s price time r ⌝ }
+    requires { ⌜ (y < mostExchanges) × (series < manySeries) ⌝ }
+    requires { ⌜ Chains (now orders) (now chains) sent ⌝ }
+    ensures { λ r. ⌜ Snapped (now (quotes .entry)) (now (statuses .entry)) (now (orders .entry)) sent y series price time r ⌝ }
 {
-    let at = quotes::row_of(y + 1, s) * 8;
-    let bid = q[at + Quote::BID];
-    let offer = q[at + Quote::OFFER];
+    let at = quotes::row_of(y + 1, series) * 8;
+    let bid = quotes[at + Quote::BID];
+    let offer = quotes[at + Quote::OFFER];
     let side = through::through_side(bid, offer, price);
     [
         side,
         price_on(side, bid, offer),
         customers_on(
             side,
-            q[at + Quote::BID_CUSTOMERS],
-            q[at + Quote::OFFER_CUSTOMERS],
+            quotes[at + Quote::BID_CUSTOMERS],
+            quotes[at + Quote::OFFER_CUSTOMERS],
         ),
-        st[y],
-        excuse(t, ch, orders, side, y + 1, s, time),
-        excuses::number(s),
+        statuses[y],
+        excuse(orders, chains, sent, side, y + 1, series, time),
+        rows::narrow(series),
         0,
         0,
     ]
@@ -141,36 +170,46 @@ fn snap_row(
 
 // What is kept of every exchange at trade n.
 fn keep_snaps(
-    sn: &mut [u32; 8192],
+    shown: &mut [u32; Shown::WORDS],
     n: usize,
     exchanges: usize,
-    q: &[u32; 2048],
-    st: &[u32; 8],
-    t: &[u32; 2048],
-    ch: &[u32; 512],
-    orders: usize,
-    s: usize,
+    quotes: &[u32; Quotes::WORDS],
+    statuses: &[u32; Statuses::WORDS],
+    orders: &[u32; Orders::WORDS],
+    chains: &[u32; Chain::WORDS],
+    sent: usize,
+    series: usize,
     price: u32,
     time: u32,
 )
-    requires { ⌜ (n < 128) × (exchanges ≤ 8) × (s < 32) ⌝ }
-    requires { ⌜ Chains (now t) (now ch) orders ⌝ }
-    ensures { λ _. ⌜ Snaps (now (q .entry)) (now (st .entry)) (now (t .entry)) orders n s price time (now (sn .entry)) (now (sn .exit)) exchanges ⌝ }
+    requires { ⌜ (n < mostTrades) × (exchanges ≤ mostExchanges) × (series < manySeries) ⌝ }
+    requires { ⌜ Chains (now orders) (now chains) sent ⌝ }
+    ensures { λ _. ⌜ Snaps (now (quotes .entry)) (now (statuses .entry)) (now (orders .entry)) sent n series price time (now (shown .entry)) (now (shown .exit)) exchanges ⌝ }
 {
     let mut y: usize = 0;
     while y < exchanges {
-        let row = snap_row(q, st, t, ch, orders, y, s, price, time);
-        rows::put_row(sn, n * 8 + y, row);
+        let row = snap_row(
+            quotes,
+            statuses,
+            orders,
+            chains,
+            sent,
+            y,
+            series,
+            price,
+            time,
+        );
+        rows::put_row(shown, n * 8 + y, row);
         y += 1;
     }
 }
 
-// Whether exchange x, traded through on a side or not, caps the due total: "larger than the customer firm size (the lesser of
+// Whether an exchange, traded through on a side or not, caps the due total: "larger than the customer firm size (the lesser of
 // home's automatic size and the other's)".
-fn caps_trade(x: usize, home: usize, side: u32, size: u32, ours: u32, theirs: u32) -> bool
-    ensures { λ r. ⌜ r ≡ caps x home side size ours theirs ⌝ }
+fn caps_trade(exchange: usize, home: usize, side: u32, size: u32, ours: u32, theirs: u32) -> bool
+    ensures { λ r. ⌜ r ≡ caps exchange home side size ours theirs ⌝ }
 {
-    if x == home {
+    if exchange == home {
         return false;
     }
     if side == Side::NEITHER {
@@ -181,21 +220,21 @@ fn caps_trade(x: usize, home: usize, side: u32, size: u32, ours: u32, theirs: u3
 
 // "If the trade is larger than the customer firm size .. with any exchange traded through, asked or not".
 fn is_capped(
-    sn: &[u32; 8192],
+    shown: &[u32; Shown::WORDS],
     n: usize,
     home: usize,
     exchanges: usize,
-    sizes: &[u32; 16],
+    sizes: &[u32; FirmSize::WORDS],
     size: u32,
 ) -> bool
-    requires { ⌜ n < 128 ⌝ }
+    requires { ⌜ n < mostTrades ⌝ }
     requires { ⌜ Headed exchanges home ⌝ }
-    ensures { λ r. ⌜ CapIs (now (sn .entry)) n home exchanges (now (sizes .entry)) size r ⌝ }
+    ensures { λ r. ⌜ CapIs (now (shown .entry)) n home exchanges (now (sizes .entry)) size r ⌝ }
 {
     let ours = sizes[(home - 1) * 2];
     let mut y: usize = 0;
     while y < exchanges {
-        let side = sn[(n * 8 + y) * 8 + Snap::SIDE];
+        let side = shown[(n * 8 + y) * 8 + Snap::SIDE];
         if caps_trade(y + 1, home, side, size, ours, sizes[y * 2]) {
             return true;
         }
@@ -206,39 +245,50 @@ fn is_capped(
 
 // One record of any kind; only a trade, found to be a block or not, in the closing window or before it, changes anything here.
 pub fn keep_trade(
-    tr: &mut [u32; 1024],
-    sn: &mut [u32; 8192],
-    c: Numbers,
+    trades: &mut [u32; Trades::WORDS],
+    shown: &mut [u32; Shown::WORDS],
+    counts: Counts,
     seat: Seat,
-    sizes: &[u32; 16],
-    q: &[u32; 2048],
-    st: &[u32; 8],
-    t: &[u32; 2048],
-    ch: &[u32; 512],
+    sizes: &[u32; FirmSize::WORDS],
+    quotes: &[u32; Quotes::WORDS],
+    statuses: &[u32; Statuses::WORDS],
+    orders: &[u32; Orders::WORDS],
+    chains: &[u32; Chain::WORDS],
     block: bool,
-    closing: bool,
     r: Rec,
 ) -> usize
-    requires { ⌜ c .trades ≤ mostTrades ⌝ }
-    requires { ⌜ Placed r (c .trades) ⌝ }
+    requires { ⌜ counts .trades ≤ mostTrades ⌝ }
+    requires { ⌜ FitsTrades r (counts .trades) ⌝ }
     requires { ⌜ Headed (seat .exchanges) (seat .home) ⌝ }
-    requires { ⌜ Chains (now t) (now ch) (c .orders) ⌝ }
-    ensures { λ m. ⌜ TradesStep r (seat .home) (seat .exchanges) (now (sizes .entry)) block closing (now (q .entry)) (now (st .entry)) (now (t .entry)) (c .orders) (now (tr .entry)) (now (sn .entry)) (c .trades) (now (tr .exit)) (now (sn .exit)) m ⌝ }
+    requires { ⌜ Chains (now orders) (now chains) (counts .orders) ⌝ }
+    ensures { λ m. ⌜ TradesStep r (seat .home) (seat .exchanges) (now (sizes .entry)) block (counts .closing) (now (quotes .entry)) (now (statuses .entry)) (now (orders .entry)) (counts .orders) (now (trades .entry)) (now (shown .entry)) (counts .trades) (now (trades .exit)) (now (shown .exit)) m ⌝ }
 {
-    let n = c.trades;
+    let n = counts.trades;
     if r.kind != Rec::TRADE {
         return n;
     }
-    let orders = c.orders;
+    let sent = counts.orders;
     let row = r.row;
     let time = r.time;
-    let s = rows::index(row[0]);
-    keep_snaps(sn, n, seat.exchanges, q, st, t, ch, orders, s, row[1], time);
-    let capped = rows::bit_of(is_capped(sn, n, seat.home, seat.exchanges, sizes, row[2]));
+    let series = rows::index(row[0]);
+    keep_snaps(
+        shown,
+        n,
+        seat.exchanges,
+        quotes,
+        statuses,
+        orders,
+        chains,
+        sent,
+        series,
+        row[1],
+        time,
+    );
+    let capped = rows::bit_of(is_capped(shown, n, seat.home, seat.exchanges, sizes, row[2]));
     let found = rows::bit_of(block);
-    let begun = rows::bit_of(closing);
+    let begun = rows::bit_of(counts.closing);
     let report = time + row[6];
     let kept = [row[1], row[2], found, row[4], row[5], report, capped, begun];
-    rows::put_row(tr, n, kept);
+    rows::put_row(trades, n, kept);
     n + 1
 }

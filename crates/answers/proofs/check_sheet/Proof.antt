@@ -16,8 +16,8 @@ survey-requires c κs = search (answer-laws, needs)
 enum-known-no : tie.Need-enum-known-no
 enum-known-no c = search (answer-laws, needs)
 
-enum-known-trades : tie.Need-enum-known-trades
-enum-known-trades c = search (answer-laws, needs)
+enum-known-traded : tie.Need-enum-known-traded
+enum-known-traded c = search (answer-laws, needs)
 
 check-sheet-requires : tie.Need-check-sheet-requires
 check-sheet-requires c κs = search (answer-laws, needs)
@@ -35,7 +35,7 @@ check-sheet-spec =
     slice-aggregate-survey
     survey-requires
     enum-known-no
-    enum-known-trades
+    enum-known-traded
     check-sheet-requires
     returns
     returns-2)

@@ -16,8 +16,8 @@ survey-requires c κs = search (answer-laws, needs)
 enum-known-no : tie.Need-enum-known-no
 enum-known-no c = search (answer-laws, needs)
 
-enum-known-trades : tie.Need-enum-known-trades
-enum-known-trades c = search (answer-laws, needs)
+enum-known-traded : tie.Need-enum-known-traded
+enum-known-traded c = search (answer-laws, needs)
 
 slice-aggregate-print-whole : tie.Need-slice-aggregate-print-whole
 slice-aggregate-print-whole c = search (answer-laws, needs)
@@ -41,7 +41,7 @@ print-day-spec =
     slice-aggregate-survey
     survey-requires
     enum-known-no
-    enum-known-trades
+    enum-known-traded
     slice-aggregate-print-whole
     print-whole-requires
     returns

@@ -17,8 +17,8 @@ survey-requires c κs = search (answer-laws, needs)
 enum-known-no : tie.Need-enum-known-no
 enum-known-no c = search (answer-laws, needs)
 
-enum-known-trades : tie.Need-enum-known-trades
-enum-known-trades c = search (answer-laws, needs)
+enum-known-traded : tie.Need-enum-known-traded
+enum-known-traded c = search (answer-laws, needs)
 
 write-own-requires : tie.Need-write-own-requires
 write-own-requires c κs = search (answer-laws, needs)
@@ -42,7 +42,7 @@ write-sheet-spec =
     slice-aggregate-survey
     survey-requires
     enum-known-no
-    enum-known-trades
+    enum-known-traded
     write-own-requires
     answered-requires
     returns

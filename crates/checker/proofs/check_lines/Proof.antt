@@ -7,10 +7,10 @@ use Rattle.checker.proofs.check_lines.Statement.{statement}
 use Rattle.checker.proofs.check_lines.Tie as tie
 
 abbrev Inv-loop : tie.InvT-loop
-Inv-loop cl said n i₀ i = LinesChecking cl said n i
+Inv-loop claims said lines i₀ i = LinesChecking claims said lines i
 
 abbrev μ-loop : tie.MeasureT-loop
-μ-loop cl said n i₀ i = n - i
+μ-loop claims said lines i₀ i = lines - i
 
 loop-holds : tie.Need-loop-holds Inv-loop μ-loop
 loop-holds c = search (lines-laws, needs)

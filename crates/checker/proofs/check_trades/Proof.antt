@@ -7,10 +7,10 @@ use Rattle.checker.proofs.check_trades.Statement.{statement}
 use Rattle.checker.proofs.check_trades.Tie as tie
 
 abbrev Inv-loop : tie.InvT-loop
-Inv-loop cl tr n said trades m₀ m = TradesChecking cl tr n said trades m
+Inv-loop claims trades lines said traded m₀ m = TradesChecking claims trades lines said traded m
 
 abbrev μ-loop : tie.MeasureT-loop
-μ-loop cl tr n said trades m₀ m = trades - m
+μ-loop claims trades lines said traded m₀ m = traded - m
 
 loop-holds : tie.Need-loop-holds Inv-loop μ-loop
 loop-holds c = search (trades-laws, needs)

@@ -7,10 +7,10 @@ use Rattle.checker.proofs.gather_fills.Statement.{statement}
 use Rattle.checker.proofs.gather_fills.Tie as tie
 
 abbrev Inv-loop : tie.InvT-loop
-Inv-loop cl n said m fill₀ k i₀ fill i = FillsGathering cl said m k i fill
+Inv-loop claims lines said m fill₀ k i₀ fill i = FillsGathering claims said m k i fill
 
 abbrev μ-loop : tie.MeasureT-loop
-μ-loop cl n said m fill₀ k i₀ fill i = k - i
+μ-loop claims lines said m fill₀ k i₀ fill i = k - i
 
 lines-of-requires : tie.Need-lines-of-requires Inv-loop μ-loop
 lines-of-requires c κs = search (fills-laws, needs)

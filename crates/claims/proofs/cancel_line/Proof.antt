@@ -77,29 +77,29 @@ element-copy-out-named c = search (cancel-laws, needs)
 named-requires : tie.Need-named-requires
 named-requires c κs = search (cancel-laws, needs)
 
-mul-lines : tie.Need-mul-lines
-mul-lines c = search (cancel-laws, needs)
+mul-claims : tie.Need-mul-claims
+mul-claims c = search (cancel-laws, needs)
 
-element-write-lines : tie.Need-element-write-lines
-element-write-lines c = search (cancel-laws, needs)
+element-write-claims : tie.Need-element-write-claims
+element-write-claims c = search (cancel-laws, needs)
 
-add-lines : tie.Need-add-lines
-add-lines c = search (cancel-laws, needs)
+add-claims : tie.Need-add-claims
+add-claims c = search (cancel-laws, needs)
 
-mul-lines-2 : tie.Need-mul-lines-2
-mul-lines-2 c = search (cancel-laws, needs)
+mul-claims-2 : tie.Need-mul-claims-2
+mul-claims-2 c = search (cancel-laws, needs)
 
-element-write-lines-2 : tie.Need-element-write-lines-2
-element-write-lines-2 c = search (cancel-laws, needs)
+element-write-claims-2 : tie.Need-element-write-claims-2
+element-write-claims-2 c = search (cancel-laws, needs)
 
-add-lines-2 : tie.Need-add-lines-2
-add-lines-2 c = search (cancel-laws, needs)
+add-claims-2 : tie.Need-add-claims-2
+add-claims-2 c = search (cancel-laws, needs)
 
-mul-lines-3 : tie.Need-mul-lines-3
-mul-lines-3 c = search (cancel-laws, needs)
+mul-claims-3 : tie.Need-mul-claims-3
+mul-claims-3 c = search (cancel-laws, needs)
 
-element-write-lines-3 : tie.Need-element-write-lines-3
-element-write-lines-3 c = search (cancel-laws, needs)
+element-write-claims-3 : tie.Need-element-write-claims-3
+element-write-claims-3 c = search (cancel-laws, needs)
 
 returns-2 : tie.Need-returns-2
 returns-2 c =
@@ -136,12 +136,12 @@ cancel-line-spec =
     mul-named
     element-copy-out-named
     named-requires
-    mul-lines
-    element-write-lines
-    add-lines
-    mul-lines-2
-    element-write-lines-2
-    add-lines-2
-    mul-lines-3
-    element-write-lines-3
+    mul-claims
+    element-write-claims
+    add-claims
+    mul-claims-2
+    element-write-claims-2
+    add-claims-2
+    mul-claims-3
+    element-write-claims-3
     returns-2)

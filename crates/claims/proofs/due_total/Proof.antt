@@ -6,20 +6,20 @@ use Rattle.claims.proofs.due_total.Reads as reads
 use Rattle.claims.proofs.due_total.Lts as lts
 use Rattle.rows.proofs.lesser.Reads as lesser-reads
 
-mul-claims : tie.Need-mul-claims
-mul-claims c = search (due-laws, needs)
+mul-sum : tie.Need-mul-sum
+mul-sum c = search (due-laws, needs)
 
-add-claims : tie.Need-add-claims
-add-claims c = search (due-laws, needs)
+add-sum : tie.Need-add-sum
+add-sum c = search (due-laws, needs)
 
-add-claims-2 : tie.Need-add-claims-2
-add-claims-2 c = search (due-laws, needs)
+add-sum-2 : tie.Need-add-sum-2
+add-sum-2 c = search (due-laws, needs)
 
-mul-claims-2 : tie.Need-mul-claims-2
-mul-claims-2 c = search (due-laws, needs)
+mul-sum-2 : tie.Need-mul-sum-2
+mul-sum-2 c = search (due-laws, needs)
 
-element-copy-out-claims : tie.Need-element-copy-out-claims
-element-copy-out-claims c = search (due-laws, needs)
+element-copy-out-sum : tie.Need-element-copy-out-sum
+element-copy-out-sum c = search (due-laws, needs)
 
 mul-if1 : tie.Need-mul-if1
 mul-if1 c = search (due-laws, needs)
@@ -58,11 +58,11 @@ pub due-total-spec : {M : Type 1} → statement M
 due-total-spec =
     tie.close
     (tie.spec
-    mul-claims
-    add-claims
-    add-claims-2
-    mul-claims-2
-    element-copy-out-claims
+    mul-sum
+    add-sum
+    add-sum-2
+    mul-sum-2
+    element-copy-out-sum
     mul-if1
     add-if1
     mul-if1-2

@@ -10,10 +10,10 @@ use Rattle.claims.proofs.line_of.Reads as line-of-reads
 use Rattle.claims.proofs.lines_of.Reads as lines-of-reads
 
 abbrev Inv-loop : tie.InvT-loop
-Inv-loop cl m claim₀ customers₀ k i₀ claim customers i = Gathering cl m k i claim customers
+Inv-loop claims m claim₀ customers₀ k i₀ claim customers i = Gathering claims m k i claim customers
 
 abbrev μ-loop : tie.MeasureT-loop
-μ-loop cl m claim₀ customers₀ k i₀ claim customers i = k - i
+μ-loop claims m claim₀ customers₀ k i₀ claim customers i = k - i
 
 lines-of-requires : tie.Need-lines-of-requires Inv-loop μ-loop
 lines-of-requires c κs = search (gather-laws, needs)

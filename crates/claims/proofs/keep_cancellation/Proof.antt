@@ -36,23 +36,23 @@ index-requires-2 c κs = search (withdraw-laws, needs)
 sub-y : tie.Need-sub-y
 sub-y c = search (withdraw-laws, needs)
 
-add-lines : tie.Need-add-lines
-add-lines c = search (withdraw-laws, needs)
+add-claims : tie.Need-add-claims
+add-claims c = search (withdraw-laws, needs)
 
-mul-lines : tie.Need-mul-lines
-mul-lines c = search (withdraw-laws, needs)
+mul-claims : tie.Need-mul-claims
+mul-claims c = search (withdraw-laws, needs)
 
-add-lines-2 : tie.Need-add-lines-2
-add-lines-2 c = search (withdraw-laws, needs)
+add-claims-2 : tie.Need-add-claims-2
+add-claims-2 c = search (withdraw-laws, needs)
 
-add-lines-3 : tie.Need-add-lines-3
-add-lines-3 c = search (withdraw-laws, needs)
+add-claims-3 : tie.Need-add-claims-3
+add-claims-3 c = search (withdraw-laws, needs)
 
-mul-lines-2 : tie.Need-mul-lines-2
-mul-lines-2 c = search (withdraw-laws, needs)
+mul-claims-2 : tie.Need-mul-claims-2
+mul-claims-2 c = search (withdraw-laws, needs)
 
-element-write-lines : tie.Need-element-write-lines
-element-write-lines c = search (withdraw-laws, needs)
+element-write-claims : tie.Need-element-write-claims
+element-write-claims c = search (withdraw-laws, needs)
 
 returns : tie.Need-returns
 returns c = search (withdraw-laws, needs)
@@ -71,10 +71,10 @@ keep-cancellation-spec =
     element-copy-out-index-2
     index-requires-2
     sub-y
-    add-lines
-    mul-lines
-    add-lines-2
-    add-lines-3
-    mul-lines-2
-    element-write-lines
+    add-claims
+    mul-claims
+    add-claims-2
+    add-claims-3
+    mul-claims-2
+    element-write-claims
     returns)

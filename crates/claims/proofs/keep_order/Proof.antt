@@ -50,17 +50,17 @@ facts-at-requires c κs = search (line-laws, needs)
 reason-of-requires : tie.Need-reason-of-requires
 reason-of-requires c κs = search (line-laws, needs)
 
-mul-traded : tie.Need-mul-traded
-mul-traded c = search (line-laws, needs)
+mul-trade-size : tie.Need-mul-trade-size
+mul-trade-size c = search (line-laws, needs)
 
-add-traded : tie.Need-add-traded
-add-traded c = search (line-laws, needs)
+add-trade-size : tie.Need-add-trade-size
+add-trade-size c = search (line-laws, needs)
 
-mul-traded-2 : tie.Need-mul-traded-2
-mul-traded-2 c = search (line-laws, needs)
+mul-trade-size-2 : tie.Need-mul-trade-size-2
+mul-trade-size-2 c = search (line-laws, needs)
 
-element-copy-out-traded : tie.Need-element-copy-out-traded
-element-copy-out-traded c = search (line-laws, needs)
+element-copy-out-trade-size : tie.Need-element-copy-out-trade-size
+element-copy-out-trade-size c = search (line-laws, needs)
 
 array-read-claim-of : tie.Need-array-read-claim-of
 array-read-claim-of c = search (line-laws, needs)
@@ -122,10 +122,10 @@ keep-order-spec =
     array-read-facts-at
     facts-at-requires
     reason-of-requires
-    mul-traded
-    add-traded
-    mul-traded-2
-    element-copy-out-traded
+    mul-trade-size
+    add-trade-size
+    mul-trade-size-2
+    element-copy-out-trade-size
     array-read-claim-of
     mul-claim-of
     add-claim-of

@@ -27,14 +27,14 @@ element-copy-out-if1 c = search (step-laws, needs)
 array-read-if1 : tie.Need-array-read-if1
 array-read-if1 c = search (step-laws, needs)
 
-add-t : tie.Need-add-t
-add-t c = search (step-laws, needs)
+add-orders : tie.Need-add-orders
+add-orders c = search (step-laws, needs)
 
-mul-t : tie.Need-mul-t
-mul-t c = search (step-laws, needs)
+mul-orders : tie.Need-mul-orders
+mul-orders c = search (step-laws, needs)
 
-element-write-t : tie.Need-element-write-t
-element-write-t c = search (step-laws, needs)
+element-write-orders : tie.Need-element-write-orders
+element-write-orders c = search (step-laws, needs)
 
 returns : tie.Need-returns
 returns c = search (step-laws, needs)
@@ -53,8 +53,8 @@ answered-spec =
     mul-if1
     element-copy-out-if1
     array-read-if1
-    add-t
-    mul-t
-    element-write-t
+    add-orders
+    mul-orders
+    element-write-orders
     returns
     returns-2)

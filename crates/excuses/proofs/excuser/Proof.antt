@@ -1,4 +1,5 @@
 use Prim.Native.Nat.{_+_, _-_, _*_}
+use Rattle.quotes.specs.Tables.{manySeries}
 use Rattle.excuses.proofs.Look.{look-laws}
 use Rattle.excuses.specs.Excuses.{Looking}
 use borrow.Author.Needs.{needs}
@@ -6,16 +7,16 @@ use Rattle.excuses.proofs.excuser.Statement.{statement}
 use Rattle.excuses.proofs.excuser.Tie as tie
 use Rattle.excuses.proofs.excuser.Reads as reads
 use Rattle.excuses.proofs.excuser.Lts as lts
-use Rattle.excuses.proofs.number.Reads as number-reads
+use Rattle.rows.proofs.narrow.Reads as narrow-reads
 use Rattle.excuses.proofs.still_excuses.Reads as still-excuses-reads
 use Rattle.quotes.proofs.row_of.Reads as row-of-reads
 use Rattle.rows.proofs.index.Reads as index-reads
 
 abbrev Inv-loop : tie.InvT-loop
-Inv-loop t ch n x s side time i₀ i = Looking t n ((x - 1) * 32 + s) side time i
+Inv-loop orders chains sent exchange series side time i₀ i = Looking orders sent ((exchange - 1) * manySeries + series) side time i
 
 abbrev μ-loop : tie.MeasureT-loop
-μ-loop t ch n x s side time i₀ i = i
+μ-loop orders chains sent exchange series side time i₀ i = i
 
 row-of-requires : tie.Need-row-of-requires Inv-loop μ-loop
 row-of-requires c κs = search (look-laws, needs)
@@ -38,8 +39,8 @@ sub-still-excuses c = search (look-laws, needs)
 still-excuses-requires : tie.Need-still-excuses-requires Inv-loop μ-loop
 still-excuses-requires c κs = search (look-laws, needs)
 
-number-requires : tie.Need-number-requires Inv-loop μ-loop
-number-requires c κs = search (look-laws, needs)
+narrow-requires : tie.Need-narrow-requires Inv-loop μ-loop
+narrow-requires c κs = search (look-laws, needs)
 
 returns : tie.Need-returns Inv-loop μ-loop
 returns c = search (look-laws, needs)
@@ -81,7 +82,7 @@ excuser-spec =
     loop-holds
     sub-still-excuses
     still-excuses-requires
-    number-requires
+    narrow-requires
     returns
     sub-index
     add-index

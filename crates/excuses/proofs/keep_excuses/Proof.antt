@@ -6,7 +6,7 @@ use Rattle.excuses.proofs.keep_excuses.Reads as reads
 use Rattle.excuses.proofs.keep_excuses.Lts as lts
 use Rattle.excuses.proofs.answered.Reads as answered-reads
 use Rattle.excuses.proofs.quoted.Reads as quoted-reads
-use Rattle.excuses.proofs.sent.Reads as sent-reads
+use Rattle.excuses.proofs.keep_sent.Reads as keep-sent-reads
 
 quoted-requires : tie.Need-quoted-requires
 quoted-requires c κs = search (step-laws, needs)
@@ -14,8 +14,8 @@ quoted-requires c κs = search (step-laws, needs)
 returns : tie.Need-returns
 returns c = search (step-laws, needs)
 
-sent-requires : tie.Need-sent-requires
-sent-requires c κs = search (step-laws, needs)
+keep-sent-requires : tie.Need-keep-sent-requires
+keep-sent-requires c κs = search (step-laws, needs)
 
 returns-2 : tie.Need-returns-2
 returns-2 c = search (step-laws, needs)
@@ -35,7 +35,7 @@ keep-excuses-spec =
     (tie.spec
     quoted-requires
     returns
-    sent-requires
+    keep-sent-requires
     returns-2
     answered-requires
     returns-3

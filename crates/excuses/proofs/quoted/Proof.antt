@@ -11,10 +11,10 @@ use Rattle.quotes.proofs.row_of.Reads as row-of-reads
 use Rattle.rows.proofs.index.Reads as index-reads
 
 abbrev Inv-loop : tie.InvT-loop
-Inv-loop t₀ ch₀ n bid offer last₀ i₀ t ch last i = Sweeping t₀ t ch n last₀ bid offer last i
+Inv-loop orders₀ chains₀ sent bid offer last₀ i₀ orders chains last i = Sweeping orders₀ orders chains sent last₀ bid offer last i
 
 abbrev μ-loop : tie.MeasureT-loop
-μ-loop t₀ ch₀ n bid offer last₀ i₀ t ch last i = i
+μ-loop orders₀ chains₀ sent bid offer last₀ i₀ orders chains last i = i
 
 array-read-bid : tie.Need-array-read-bid Inv-loop μ-loop
 array-read-bid c = search (step-laws, sweep-laws, needs)
@@ -76,23 +76,23 @@ loop-less c = search (step-laws, sweep-laws, needs)
 loop-again : tie.Need-loop-again Inv-loop μ-loop
 loop-again c = search (step-laws, sweep-laws, needs)
 
-mul-t : tie.Need-mul-t Inv-loop μ-loop
-mul-t c = search (step-laws, sweep-laws, needs)
+mul-orders : tie.Need-mul-orders Inv-loop μ-loop
+mul-orders c = search (step-laws, sweep-laws, needs)
 
-add-t : tie.Need-add-t Inv-loop μ-loop
-add-t c = search (step-laws, sweep-laws, needs)
+add-orders : tie.Need-add-orders Inv-loop μ-loop
+add-orders c = search (step-laws, sweep-laws, needs)
 
-mul-t-2 : tie.Need-mul-t-2 Inv-loop μ-loop
-mul-t-2 c = search (step-laws, sweep-laws, needs)
+mul-orders-2 : tie.Need-mul-orders-2 Inv-loop μ-loop
+mul-orders-2 c = search (step-laws, sweep-laws, needs)
 
-element-write-t : tie.Need-element-write-t Inv-loop μ-loop
-element-write-t c = search (step-laws, sweep-laws, needs)
+element-write-orders : tie.Need-element-write-orders Inv-loop μ-loop
+element-write-orders c = search (step-laws, sweep-laws, needs)
 
-mul-ch : tie.Need-mul-ch Inv-loop μ-loop
-mul-ch c = search (step-laws, sweep-laws, needs)
+mul-chains : tie.Need-mul-chains Inv-loop μ-loop
+mul-chains c = search (step-laws, sweep-laws, needs)
 
-element-write-ch : tie.Need-element-write-ch Inv-loop μ-loop
-element-write-ch c = search (step-laws, sweep-laws, needs)
+element-write-chains : tie.Need-element-write-chains Inv-loop μ-loop
+element-write-chains c = search (step-laws, sweep-laws, needs)
 
 loop-less-2 : tie.Need-loop-less-2 Inv-loop μ-loop
 loop-less-2 c = search (step-laws, sweep-laws, needs)
@@ -132,12 +132,12 @@ quoted-spec =
     add-last
     loop-less
     loop-again
-    mul-t
-    add-t
-    mul-t-2
-    element-write-t
-    mul-ch
-    element-write-ch
+    mul-orders
+    add-orders
+    mul-orders-2
+    element-write-orders
+    mul-chains
+    element-write-chains
     loop-less-2
     loop-again-2
     returns)

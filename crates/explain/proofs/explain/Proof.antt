@@ -18,8 +18,8 @@ slice-aggregate-survey c = search (clerk-laws, needs)
 survey-requires : tie.Need-survey-requires
 survey-requires c κs = search (clerk-laws, needs)
 
-enum-known-trades : tie.Need-enum-known-trades
-enum-known-trades c = search (clerk-laws, needs)
+enum-known-traded : tie.Need-enum-known-traded
+enum-known-traded c = search (clerk-laws, needs)
 
 enum-told : tie.Need-enum-told
 enum-told c = search (clerk-laws, needs)
@@ -60,7 +60,7 @@ explain-spec =
     (tie.spec
     slice-aggregate-survey
     survey-requires
-    enum-known-trades
+    enum-known-traded
     enum-told
     returns
     read-lines-requires

@@ -8,10 +8,10 @@ use Rattle.explain.proofs.tell_orders.Lts as lts
 use Rattle.explain.proofs.told_order.Reads as told-order-reads
 
 abbrev Inv-loop : tie.InvT-loop
-Inv-loop lines kept snaps said cancelled n close sheet i₀ i = Unit {0}
+Inv-loop claims trades shown said cancelled lines close sheet i₀ i = Unit {0}
 
 abbrev μ-loop : tie.MeasureT-loop
-μ-loop lines kept snaps said cancelled n close sheet i₀ i = n - i
+μ-loop claims trades shown said cancelled lines close sheet i₀ i = lines - i
 
 loop-holds : tie.Need-loop-holds Inv-loop μ-loop
 loop-holds c = search (clerk-laws, needs)

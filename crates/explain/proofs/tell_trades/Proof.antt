@@ -8,10 +8,10 @@ use Rattle.explain.proofs.tell_trades.Lts as lts
 use Rattle.explain.proofs.beside.tell_trade.Reads as tell-trade-reads
 
 abbrev Inv-loop : tie.InvT-loop
-Inv-loop lines kept snaps said trades n sheet m₀ m = Unit {0}
+Inv-loop claims trades shown said traded lines sheet m₀ m = Unit {0}
 
 abbrev μ-loop : tie.MeasureT-loop
-μ-loop lines kept snaps said trades n sheet m₀ m = trades - m
+μ-loop claims trades shown said traded lines sheet m₀ m = traded - m
 
 loop-holds : tie.Need-loop-holds Inv-loop μ-loop
 loop-holds c = search (clerk-laws, needs)

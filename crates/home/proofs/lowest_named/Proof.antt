@@ -6,16 +6,16 @@ use Rattle.home.proofs.lowest_named.Statement.{statement}
 use Rattle.home.proofs.lowest_named.Tie as tie
 
 abbrev Inv-loop : tie.InvT-loop
-Inv-loop q n home verdict v y₀ y = Passed q n home verdict v y
+Inv-loop quotes exchanges home verdict quote y₀ y = Passed quotes exchanges home verdict quote y
 
 abbrev μ-loop : tie.MeasureT-loop
-μ-loop q n home verdict v y₀ y = n - y
+μ-loop quotes exchanges home verdict quote y₀ y = exchanges - y
 
 loop-holds : tie.Need-loop-holds Inv-loop μ-loop
 loop-holds c = search (home-laws, needs)
 
-add-x : tie.Need-add-x Inv-loop μ-loop
-add-x c = search (home-laws, needs)
+add-exchange : tie.Need-add-exchange Inv-loop μ-loop
+add-exchange c = search (home-laws, needs)
 
 add-y : tie.Need-add-y Inv-loop μ-loop
 add-y c = search (home-laws, needs)
@@ -75,7 +75,7 @@ lowest-named-spec =
     Inv-loop
     μ-loop
     loop-holds
-    add-x
+    add-exchange
     add-y
     loop-less
     loop-again

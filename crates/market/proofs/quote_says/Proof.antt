@@ -7,11 +7,11 @@ use Rattle.market.proofs.quote_says.Tie as tie
 enum-told : tie.Need-enum-told
 enum-told c = search (judge-laws, needs)
 
-enum-known-v : tie.Need-enum-known-v
-enum-known-v c = search (judge-laws, needs)
+enum-known-against : tie.Need-enum-known-against
+enum-known-against c = search (judge-laws, needs)
 
-enum-known-v-2 : tie.Need-enum-known-v-2
-enum-known-v-2 c = search (judge-laws, needs)
+enum-known-against-2 : tie.Need-enum-known-against-2
+enum-known-against-2 c = search (judge-laws, needs)
 
 returns : tie.Need-returns
 returns c = search (judge-laws, needs)
@@ -24,4 +24,4 @@ returns-3 c = search (judge-laws, needs)
 
 pub quote-says-spec : {M : Type 1} → statement M
 quote-says-spec =
-    tie.close (tie.spec enum-told enum-known-v enum-known-v-2 returns returns-2 returns-3)
+    tie.close (tie.spec enum-told enum-known-against enum-known-against-2 returns returns-2 returns-3)

@@ -1,5 +1,6 @@
 -- `keep_requotes` meets its contract: each need by the laws of this crate.
 use Prim.Native.Nat.{_-_}
+use Rattle.rules.specs.Limits.{mostExchanges}
 use Rattle.periods.specs.Periods.{Marking}
 use Rattle.periods.proofs.Keeping.{mark-laws}
 use borrow.Author.Needs.{needs}
@@ -10,7 +11,7 @@ abbrev Inv-loop : tie.InvT-loop
 Inv-loop periods₀ row y₀ periods y = Marking periods₀ y row periods
 
 abbrev μ-loop : tie.MeasureT-loop
-μ-loop periods₀ row y₀ periods y = 8 - y
+μ-loop periods₀ row y₀ periods y = mostExchanges - y
 
 loop-holds : tie.Need-loop-holds Inv-loop μ-loop
 loop-holds c = search (mark-laws, needs)

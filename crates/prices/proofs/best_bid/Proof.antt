@@ -8,10 +8,10 @@ use Rattle.prices.proofs.best_bid.Statement.{statement}
 use Rattle.prices.proofs.best_bid.Tie as tie
 
 abbrev Inv-loop : tie.InvT-loop
-Inv-loop q n series y₀ highest₀ y highest = Best paper.highest bidOf q n series y highest
+Inv-loop quotes exchanges series y₀ highest₀ y highest = Best paper.highest bidOf quotes exchanges series y highest
 
 abbrev μ-loop : tie.MeasureT-loop
-μ-loop q n series y₀ highest₀ y highest = n - y
+μ-loop quotes exchanges series y₀ highest₀ y highest = exchanges - y
 
 loop-holds : tie.Need-loop-holds Inv-loop μ-loop
 loop-holds c = search (price-laws, needs)

@@ -8,10 +8,10 @@ use Rattle.prices.proofs.best_offer.Statement.{statement}
 use Rattle.prices.proofs.best_offer.Tie as tie
 
 abbrev Inv-loop : tie.InvT-loop
-Inv-loop q n series y₀ lowest₀ y lowest = Best paper.lowest offerOf q n series y lowest
+Inv-loop quotes exchanges series y₀ lowest₀ y lowest = Best paper.lowest offerOf quotes exchanges series y lowest
 
 abbrev μ-loop : tie.MeasureT-loop
-μ-loop q n series y₀ lowest₀ y lowest = n - y
+μ-loop quotes exchanges series y₀ lowest₀ y lowest = exchanges - y
 
 loop-holds : tie.Need-loop-holds Inv-loop μ-loop
 loop-holds c = search (price-laws, needs)

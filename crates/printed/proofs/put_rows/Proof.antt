@@ -7,10 +7,10 @@ use Rattle.printed.proofs.put_rows.Statement.{statement}
 use Rattle.printed.proofs.put_rows.Tie as tie
 
 abbrev Inv-loop : tie.InvT-loop
-Inv-loop list n cl fills lines out₀ at next₀ i₀ out next i = RowsWritten (sheetFrom cl fills lines) list n out₀ at i out next
+Inv-loop list listed claims fills lines out₀ at next₀ i₀ out next i = RowsWritten (sheetFrom claims fills lines) list listed out₀ at i out next
 
 abbrev μ-loop : tie.MeasureT-loop
-μ-loop list n cl fills lines out₀ at next₀ i₀ out next i = n - i
+μ-loop list listed claims fills lines out₀ at next₀ i₀ out next i = listed - i
 
 loop-holds : tie.Need-loop-holds Inv-loop μ-loop
 loop-holds c = search (rows-laws, needs)

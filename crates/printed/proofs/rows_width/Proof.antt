@@ -7,10 +7,10 @@ use Rattle.printed.proofs.rows_width.Statement.{statement}
 use Rattle.printed.proofs.rows_width.Tie as tie
 
 abbrev Inv-loop : tie.InvT-loop
-Inv-loop list n cl fills lines width₀ i₀ width i = Widths (sheetFrom cl fills lines) list n i width
+Inv-loop list listed claims fills lines width₀ i₀ width i = Widths (sheetFrom claims fills lines) list listed i width
 
 abbrev μ-loop : tie.MeasureT-loop
-μ-loop list n cl fills lines width₀ i₀ width i = n - i
+μ-loop list listed claims fills lines width₀ i₀ width i = listed - i
 
 loop-holds : tie.Need-loop-holds Inv-loop μ-loop
 loop-holds c = search (width-laws, needs)

@@ -1,5 +1,5 @@
 -- `keep_quote` meets its contract: each need by the laws of this crate.
-use Rattle.quotes.proofs.Quotes.{quote-laws}
+use Rattle.quotes.proofs.QuoteLaws.{quote-laws}
 use borrow.Author.Needs.{needs}
 use Rattle.quotes.proofs.keep_quote.Statement.{statement}
 use Rattle.quotes.proofs.keep_quote.Tie as tie

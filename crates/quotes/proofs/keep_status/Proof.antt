@@ -1,11 +1,11 @@
 -- `keep_status` meets its contract: each need by the laws of this crate.
-use Rattle.quotes.proofs.Statuses.{status-laws}
+use Rattle.quotes.proofs.StatusLaws.{status-laws}
 use borrow.Author.Needs.{needs}
 use Rattle.quotes.proofs.keep_status.Statement.{statement}
 use Rattle.quotes.proofs.keep_status.Tie as tie
 
-array-read-st : tie.Need-array-read-st
-array-read-st c = search (status-laws, needs)
+array-read-statuses : tie.Need-array-read-statuses
+array-read-statuses c = search (status-laws, needs)
 
 array-read-index : tie.Need-array-read-index
 array-read-index c = search (status-laws, needs)
@@ -13,14 +13,14 @@ array-read-index c = search (status-laws, needs)
 index-requires : tie.Need-index-requires
 index-requires c κs = search (status-laws, needs)
 
-sub-st : tie.Need-sub-st
-sub-st c = search (status-laws, needs)
+sub-statuses : tie.Need-sub-statuses
+sub-statuses c = search (status-laws, needs)
 
-mul-st : tie.Need-mul-st
-mul-st c = search (status-laws, needs)
+mul-statuses : tie.Need-mul-statuses
+mul-statuses c = search (status-laws, needs)
 
-element-write-st : tie.Need-element-write-st
-element-write-st c = search (status-laws, needs)
+element-write-statuses : tie.Need-element-write-statuses
+element-write-statuses c = search (status-laws, needs)
 
 returns : tie.Need-returns
 returns c = search (status-laws, needs)
@@ -32,11 +32,11 @@ pub keep-status-spec : {M : Type 1} → statement M
 keep-status-spec =
     tie.close
     (tie.spec
-    array-read-st
+    array-read-statuses
     array-read-index
     index-requires
-    sub-st
-    mul-st
-    element-write-st
+    sub-statuses
+    mul-statuses
+    element-write-statuses
     returns
     returns-2)

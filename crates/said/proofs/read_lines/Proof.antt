@@ -7,10 +7,10 @@ use Rattle.said.proofs.read_lines.Statement.{statement}
 use Rattle.said.proofs.read_lines.Tie as tie
 
 abbrev Inv-loop : tie.InvT-loop
-Inv-loop sheet n said₀ at₀ i₀ said at i = SheetReading sheet n said at i
+Inv-loop sheet lines said₀ at₀ i₀ said at i = SheetReading sheet lines said at i
 
 abbrev μ-loop : tie.MeasureT-loop
-μ-loop sheet n said₀ at₀ i₀ said at i = n - i
+μ-loop sheet lines said₀ at₀ i₀ said at i = lines - i
 
 loop-holds : tie.Need-loop-holds Inv-loop μ-loop
 loop-holds c = search (lines-read-laws, needs)

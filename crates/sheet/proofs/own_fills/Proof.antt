@@ -9,10 +9,10 @@ use Rattle.sheet.proofs.own_fills.Lts as lts
 use Rattle.sheet.proofs.fill_trade.Reads as fill-trade-reads
 
 abbrev Inv-loop : tie.InvT-loop
-Inv-loop cl tr trades n fills₀ m₀ fills m = Filling cl tr trades n fills₀ fills m
+Inv-loop claims trades traded lines fills₀ m₀ fills m = Filling claims trades traded lines fills₀ fills m
 
 abbrev μ-loop : tie.MeasureT-loop
-μ-loop cl tr trades n fills₀ m₀ fills m = trades - m
+μ-loop claims trades traded lines fills₀ m₀ fills m = traded - m
 
 loop-holds : tie.Need-loop-holds Inv-loop μ-loop
 loop-holds c = search (fill-laws, needs)

@@ -10,10 +10,10 @@ use Rattle.sheet.proofs.own_line.Reads as own-line-reads
 use Rattle.sheet.proofs.put_line.Reads as put-line-reads
 
 abbrev Inv-loop : tie.InvT-loop
-Inv-loop out₀ cl fills n at₀ i₀ out at i = Putting out₀ cl fills n out at i
+Inv-loop out₀ claims fills lines at₀ i₀ out at i = Putting out₀ claims fills lines out at i
 
 abbrev μ-loop : tie.MeasureT-loop
-μ-loop out₀ cl fills n at₀ i₀ out at i = n - i
+μ-loop out₀ claims fills lines at₀ i₀ out at i = lines - i
 
 loop-holds : tie.Need-loop-holds Inv-loop μ-loop
 loop-holds c = search (put-laws, needs)

@@ -9,10 +9,10 @@ use Rattle.sheet.proofs.scatter.Lts as lts
 use Rattle.claims.proofs.line_of.Reads as line-of-reads
 
 abbrev Inv-loop : tie.InvT-loop
-Inv-loop cl m k fill fills₀ i₀ fills i = Scattering cl m k fill fills₀ fills i
+Inv-loop claims m k fill fills₀ i₀ fills i = Scattering claims m k fill fills₀ fills i
 
 abbrev μ-loop : tie.MeasureT-loop
-μ-loop cl m k fill fills₀ i₀ fills i = k - i
+μ-loop claims m k fill fills₀ i₀ fills i = k - i
 
 loop-holds : tie.Need-loop-holds Inv-loop μ-loop
 loop-holds c = search (scatter-laws, needs)

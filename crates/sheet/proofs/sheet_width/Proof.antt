@@ -6,14 +6,14 @@ use Rattle.sheet.proofs.sheet_width.Statement.{statement}
 use Rattle.sheet.proofs.sheet_width.Tie as tie
 use Rattle.sheet.proofs.sheet_width.Reads as reads
 use Rattle.sheet.proofs.sheet_width.Lts as lts
-use Rattle.numbers.proofs.widths.Reads as widths-reads
+use Rattle.several.proofs.widths.Reads as widths-reads
 use Rattle.sheet.proofs.own_line.Reads as own-line-reads
 
 abbrev Inv-loop : tie.InvT-loop
-Inv-loop cl fills n sum₀ i₀ sum i = Summing cl fills n sum i
+Inv-loop claims fills lines sum₀ i₀ sum i = Summing claims fills lines sum i
 
 abbrev μ-loop : tie.MeasureT-loop
-μ-loop cl fills n sum₀ i₀ sum i = n - i
+μ-loop claims fills lines sum₀ i₀ sum i = lines - i
 
 loop-holds : tie.Need-loop-holds Inv-loop μ-loop
 loop-holds c = search (width-laws, needs)

@@ -41,7 +41,14 @@ keep-status-requires c κs =
     claimed .before .before .before .before .before .before .pre .1 .0 .quote
 
 returns : tie.Need-returns
-returns c = search (all-kept, needs)
+returns c =
+    let quoted = c .before .before in
+    let ordered = quoted .before .before in
+    let traded = ordered .before .before .before in
+    let claimed = traded .before .before .before .before .before .before .before in
+    let found = claimed .before .before .before .before in
+    all-kept _ _ _ _ _ _ _ _ _ _ (found .found-block .ensures) (claimed .keep-claim .ensures) (traded .keep-trade .ensures) (ordered .keep-excuses .ensures) (quoted .keep-quote .ensures)
+    (c .keep-status .ensures)
 
 pub keep-spec : {M : Type 1} → statement M
 keep-spec =

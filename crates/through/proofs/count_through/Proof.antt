@@ -6,10 +6,10 @@ use Rattle.through.proofs.count_through.Statement.{statement}
 use Rattle.through.proofs.count_through.Tie as tie
 
 abbrev Inv-loop : tie.InvT-loop
-Inv-loop q n home t count₀ y₀ count y = Counted q n home t y count
+Inv-loop quotes exchanges home trade count₀ y₀ count y = Counted quotes exchanges home trade y count
 
 abbrev μ-loop : tie.MeasureT-loop
-μ-loop q n home t count₀ y₀ count y = n - y
+μ-loop quotes exchanges home trade count₀ y₀ count y = exchanges - y
 
 loop-holds : tie.Need-loop-holds Inv-loop μ-loop
 loop-holds c = search (trade-laws, needs)

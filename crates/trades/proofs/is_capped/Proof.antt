@@ -9,10 +9,10 @@ use Rattle.trades.proofs.is_capped.Lts as lts
 use Rattle.trades.proofs.caps_trade.Reads as caps-trade-reads
 
 abbrev Inv-loop : tie.InvT-loop
-Inv-loop sn n home exchanges sizes size ours y₀ y = NoCap sn n home exchanges sizes size y
+Inv-loop shown n home exchanges sizes size ours y₀ y = NoCap shown n home exchanges sizes size y
 
 abbrev μ-loop : tie.MeasureT-loop
-μ-loop sn n home exchanges sizes size ours y₀ y = exchanges - y
+μ-loop shown n home exchanges sizes size ours y₀ y = exchanges - y
 
 sub-ours : tie.Need-sub-ours Inv-loop μ-loop
 sub-ours c = search (cap-laws, needs)

@@ -10,10 +10,10 @@ use Rattle.rows.proofs.put_row.Reads as put-row-reads
 use Rattle.trades.proofs.snap_row.Reads as snap-row-reads
 
 abbrev Inv-loop : tie.InvT-loop
-Inv-loop sn₀ n exchanges q st t ch orders s price time y₀ sn y = Snapping q st t orders n s price time sn₀ sn exchanges y
+Inv-loop shown₀ n exchanges quotes statuses orders chains sent series price time y₀ shown y = Snapping quotes statuses orders sent n series price time shown₀ shown exchanges y
 
 abbrev μ-loop : tie.MeasureT-loop
-μ-loop sn₀ n exchanges q st t ch orders s price time y₀ sn y = exchanges - y
+μ-loop shown₀ n exchanges quotes statuses orders chains sent series price time y₀ shown y = exchanges - y
 
 loop-holds : tie.Need-loop-holds Inv-loop μ-loop
 loop-holds c = search (snap-laws, needs)

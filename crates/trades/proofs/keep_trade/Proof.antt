@@ -1,4 +1,4 @@
-use Rattle.trades.proofs.Trades.{trade-laws, trade-taken}
+use Rattle.trades.proofs.TradeLaws.{trade-laws, trade-taken}
 use borrow.Author.Needs.{needs}
 use Rattle.trades.proofs.keep_trade.Statement.{statement}
 use Rattle.trades.proofs.keep_trade.Tie as tie
@@ -46,17 +46,17 @@ array-read-report c = search (trade-laws, needs)
 add-report : tie.Need-add-report
 add-report c = search (trade-laws, needs)
 
-array-read-t26 : tie.Need-array-read-t26
-array-read-t26 c = search (trade-laws, needs)
+array-read-t25 : tie.Need-array-read-t25
+array-read-t25 c = search (trade-laws, needs)
 
-array-read-t40 : tie.Need-array-read-t40
-array-read-t40 c = search (trade-laws, needs)
+array-read-t39 : tie.Need-array-read-t39
+array-read-t39 c = search (trade-laws, needs)
 
-array-read-t43 : tie.Need-array-read-t43
-array-read-t43 c = search (trade-laws, needs)
+array-read-t42 : tie.Need-array-read-t42
+array-read-t42 c = search (trade-laws, needs)
 
-array-read-t46 : tie.Need-array-read-t46
-array-read-t46 c = search (trade-laws, needs)
+array-read-t45 : tie.Need-array-read-t45
+array-read-t45 c = search (trade-laws, needs)
 
 put-row-requires : tie.Need-put-row-requires
 put-row-requires c κs = search (trade-laws, needs)
@@ -92,10 +92,10 @@ keep-trade-spec =
     bit-of-requires-3
     array-read-report
     add-report
-    array-read-t26
-    array-read-t40
-    array-read-t43
-    array-read-t46
+    array-read-t25
+    array-read-t39
+    array-read-t42
+    array-read-t45
     put-row-requires
     add-result
     returns-2)

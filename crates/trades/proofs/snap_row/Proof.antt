@@ -4,7 +4,7 @@ use Rattle.trades.proofs.snap_row.Statement.{statement}
 use Rattle.trades.proofs.snap_row.Tie as tie
 use Rattle.trades.proofs.snap_row.Reads as reads
 use Rattle.trades.proofs.snap_row.Lts as lts
-use Rattle.excuses.proofs.number.Reads as number-reads
+use Rattle.rows.proofs.narrow.Reads as narrow-reads
 use Rattle.quotes.proofs.row_of.Reads as row-of-reads
 use Rattle.through.proofs.through_side.Reads as through-side-reads
 use Rattle.trades.proofs.customers_on.Reads as customers-on-reads
@@ -77,8 +77,8 @@ add-excuse c = search (snap-laws, needs)
 excuse-requires : tie.Need-excuse-requires
 excuse-requires c κs = search (snap-laws, needs)
 
-number-requires : tie.Need-number-requires
-number-requires c κs = search (snap-laws, needs)
+narrow-requires : tie.Need-narrow-requires
+narrow-requires c κs = search (snap-laws, needs)
 
 returns : tie.Need-returns
 returns c = search (snap-laws, needs)
@@ -109,5 +109,5 @@ snap-row-spec =
     element-copy-out-t33
     add-excuse
     excuse-requires
-    number-requires
+    narrow-requires
     returns)

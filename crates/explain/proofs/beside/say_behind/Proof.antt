@@ -10,10 +10,10 @@ use Rattle.explain.proofs.beside.say_below.Reads as say-below-reads
 use Rattle.explain.proofs.beside.say_filled.Reads as say-filled-reads
 
 abbrev Inv-loop : tie.InvT-loop
-Inv-loop lines m claim customers fill k part i₀ i = Unit {0}
+Inv-loop claims m claim customers fill k part i₀ i = Unit {0}
 
 abbrev μ-loop : tie.MeasureT-loop
-μ-loop lines m claim customers fill k part i₀ i = k - i
+μ-loop claims m claim customers fill k part i₀ i = k - i
 
 mul-part : tie.Need-mul-part Inv-loop μ-loop
 mul-part c = search (clerk-laws, needs)

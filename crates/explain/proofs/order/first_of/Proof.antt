@@ -9,10 +9,10 @@ use Rattle.claims.proofs.line_of.Reads as line-of-reads
 use Rattle.claims.proofs.lines_of.Reads as lines-of-reads
 
 abbrev Inv-loop : tie.InvT-loop
-Inv-loop lines m sender i k j₀ j = Unit {0}
+Inv-loop claims m sender i k j₀ j = Unit {0}
 
 abbrev μ-loop : tie.MeasureT-loop
-μ-loop lines m sender i k j₀ j = k - j
+μ-loop claims m sender i k j₀ j = k - j
 
 lines-of-requires : tie.Need-lines-of-requires Inv-loop μ-loop
 lines-of-requires c κs = search (clerk-laws, needs)
