@@ -1,4 +1,6 @@
 // What a desk asks of a journal beyond its acceptance and its totals: the printed day, our own sheet, and the check of any sheet.
+#![tactic(auto)]
+
 ghost use Rattle.std.specs.Prelude.{◌≡◌, ◌≤◌, length};
 ghost use Rattle.rules.specs.Limits.{most_trades, most_satisfaction_orders};
 ghost use Rattle.rules.specs.Writing.{write_day, write_sheet};

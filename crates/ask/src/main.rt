@@ -1,4 +1,6 @@
 // Questions on standard input, answers on standard output, until the input ends or a question cannot be read whole.
+#![tactic(auto)]
+
 ghost use Rattle.std.specs.Prelude.{◌<◌, ◌≤◌};
 
 use desk::Handed;

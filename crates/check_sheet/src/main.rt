@@ -1,4 +1,6 @@
 // Checks a sheet against its journal: `check_sheet JOURNAL SHEET` prints `accepted`, or the refusal.
+#![tactic(auto)]
+
 use feed::{Input, Room};
 use libc::{STDERR_FILENO, STDOUT_FILENO};
 use said::Checked;

@@ -1,5 +1,7 @@
 // What a sheet says, checked against the tables of its journal: "20; then line by line 21, 22, 24; then trade by trade 25, 26".
 // Reasons, claims and due totals come from the tables alone; the sheet is never asked what is due.
+#![tactic(auto)]
+
 ghost use Rattle.std.specs.Prelude.{◌≡◌, ◌<◌, ◌≤◌, length};
 ghost use Rattle.rules.specs.Limits.{most_trades, most_satisfaction_orders, most_trade_lines};
 ghost use Rattle.rules.specs.SheetCheck.{check_line, check_lines};

@@ -1,4 +1,6 @@
 // The table of Satisfaction Orders: each filed with its reason and its claim under its trade, and what is due to a trade.
+#![tactic(auto)]
+
 ghost use Rattle.std.specs.Prelude.{◌≡◌, ◌+◌, ◌<◌, ◌≤◌, length};
 ghost use Rattle.rules.specs.Limits.{most_exchanges, most_trades, most_trade_lines, last_time};
 ghost use Rattle.rules.specs.Record.{satisfaction_kind};

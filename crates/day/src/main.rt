@@ -1,4 +1,6 @@
 // "The day program reads a journal on standard input. It prints `refused 2 at 0` (number, place), or a list".
+#![tactic(auto)]
+
 use feed::{Input, Room};
 use journal::Rewritten;
 use libc::STDOUT_FILENO;

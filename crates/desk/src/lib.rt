@@ -1,4 +1,6 @@
 // The desk's functions for other languages: slices in, lent memory, one number out. include/hasurenta.h declares them.
+#![tactic(auto)]
+
 ghost use Rattle.std.specs.Prelude.{◌≡◌, [], ◌∷◌, ◌+◌, ◌%◌, ◌≤◌, length, take};
 ghost use Rattle.rules.specs.Basics.{refused};
 ghost use Rattle.limits.specs.Limits.{batch_words};

@@ -1,4 +1,6 @@
 // Reason 2: the orders that home has sent, and which of them still excuse a trade through the exchange they went to.
+#![tactic(auto)]
+
 ghost use Rattle.std.specs.Prelude.{◌≡◌, ◌+◌, ◌-◌, ◌*◌, ◌<◌, ◌≤◌, get_or, length};
 ghost use Rattle.rules.specs.Limits.{most_exchanges, most_sent_orders};
 ghost use Rattle.rules.specs.Record.{quote_kind, sent_kind, response_kind};

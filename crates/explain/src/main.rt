@@ -1,6 +1,8 @@
 // Each Satisfaction Order, each trade and each received order of a journal in words: what a clerk needs to answer a call about it.
 // `explain` takes the journal on standard input and says what our own sheet fills. `explain JOURNAL SHEET` sets a sheet beside what the journal gives: first the check's
 // answer, then in its place what was found to be wrong. Or the journal's refusal.
+#![tactic(auto)]
+
 ghost use Rattle.std.specs.Prelude.{◌≤◌, ◌<◌};
 ghost use Rattle.rules.specs.Limits.{most_trades, most_satisfaction_orders};
 ghost use Rattle.claims.specs.Lines.{Filing};

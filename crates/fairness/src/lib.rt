@@ -1,5 +1,7 @@
 // One trade's lines, and whether a sheet's fills keep the share rule among them.
 // A trade's claims, customer contracts and fills are the first k words of arrays that have one for each line that a trade can have.
+#![tactic(auto)]
+
 ghost use Rattle.std.specs.Prelude.{◌≡◌, ◌≤◌, take};
 ghost use Rattle.rules.specs.Basics.{sum};
 ghost use Rattle.rules.specs.Limits.{most_trade_lines};

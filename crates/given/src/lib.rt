@@ -1,4 +1,6 @@
 // A header out of a row of plain numbers, as other languages and a text hand it in; and how many numbers there are of it and of a record.
+#![tactic(auto)]
+
 ghost use Rattle.std.specs.Prelude.{◌≡◌, ◌+◌, ◌≤◌, length};
 ghost use Rattle.rules.specs.Limits.{most_exchanges};
 ghost use Rattle.rules.specs.Header.{sizes_of};

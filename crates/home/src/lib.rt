@@ -1,4 +1,6 @@
 // The verdict on a home quote: crossed, locked or clear.
+#![tactic(auto)]
+
 ghost use Rattle.std.specs.Prelude.{◌≡◌, ◌≤◌, ◌<◌};
 ghost use Rattle.rules.specs.Limits.{most_exchanges};
 ghost use Rattle.quotes.specs.Tables.{many_series};

@@ -1,5 +1,7 @@
 // The day's list of verdicts, kept as rows while the journal is walked: a refusal writes nothing to lent memory, and what is
 // printed of a Satisfaction Order is known only when the whole journal is. `printed` prints it then.
+#![tactic(auto)]
+
 ghost use Rattle.std.specs.Prelude.{◌≡◌, ◌+◌, ◌*◌, ◌≤◌, length};
 ghost use Rattle.rules.specs.Limits.{most_trades, most_sent_orders, most_satisfaction_orders};
 ghost use Rattle.rules.specs.Record.{quote_kind};

@@ -1,4 +1,6 @@
 // What is printed of a record: the verdict on a home quote, an order or a trade, as a letter and three numbers.
+#![tactic(auto)]
+
 ghost use Rattle.std.specs.Prelude.{◌≡◌, true, ◌≤◌};
 ghost use Rattle.rules.specs.Limits.{most_trades, most_sent_orders};
 ghost use Rattle.rules.specs.Record.{quote_kind};

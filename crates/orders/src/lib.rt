@@ -1,4 +1,6 @@
 // The verdict on sent orders, and what verdicts on received ones are made of. A buy order goes for the offer, a sell order for the bid.
+#![tactic(auto)]
+
 ghost use Rattle.std.specs.Prelude.{◌≡◌, ◌≤◌, ◌<◌};
 ghost use Rattle.rules.specs.Limits.{most_exchanges};
 ghost use Rattle.quotes.specs.Tables.{many_series, Within};

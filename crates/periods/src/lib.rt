@@ -1,5 +1,7 @@
 // Received orders. A principal order that home had to execute whole, the initial execution, begins a period for its sender:
 // further ones have no duty for 15 seconds, and up to a minute are answered at least in part.
+#![tactic(auto)]
+
 ghost use Rattle.std.specs.Prelude.{◌*◌, ◌≤◌, ◌<◌, length, ◌≡◌};
 ghost use Rattle.rules.specs.Limits.{most_exchanges};
 ghost use Rattle.rules.specs.Record.{received_kind};

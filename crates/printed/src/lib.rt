@@ -1,4 +1,6 @@
 // The day's list printed: its rows as text, each Satisfaction Order with what our own sheet says of it.
+#![tactic(auto)]
+
 ghost use Rattle.std.specs.Prelude.{◌≡◌, ◌+◌, ◌-◌, ◌*◌, ◌≤◌, length};
 ghost use Rattle.rules.specs.Limits.{most_satisfaction_orders};
 ghost use Rattle.text.specs.Lent.{Wrote, Takes};

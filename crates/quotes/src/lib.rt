@@ -1,4 +1,6 @@
 // The quotes and the statuses as they stand: one row of eight words for each exchange and series, one word for each exchange.
+#![tactic(auto)]
+
 ghost use Rattle.quotes.specs.Tables.{Within, RowIs, FitsQuotes, QuotesStep, StatusesStep};
 
 use limits::{Exchanges, Series};

@@ -1,4 +1,6 @@
 // One Satisfaction Order, judged by its facts: the reason on it, and its claim.
+#![tactic(auto)]
+
 ghost use Rattle.std.specs.Prelude.{◌≡◌, ◌&&◌, ◌≤◌};
 ghost use Rattle.rules.specs.Basics.{◌==◌};
 ghost use Rattle.rules.specs.Reasons.{three_minutes};

@@ -85,6 +85,11 @@ predecessor : (x : ℕ) → 1 ≤ x → (y : ℕ) × (x ≡ suc y)
 predecessor zero h = absurd (omega arith)
 predecessor (suc y) h = (y, refl)
 
+-- a line's trade is its Satisfaction Order's
+trade_of_line : (h : Header) (day past : History) (n : ℕ) (e : Event) → (line_of h day past n e).trade ≡ (satisfaction e).trade
+unfolding line_of
+trade_of_line h day past n e = refl
+
 lines_by_exchange : {h : Header} {past : History} → Arrived h past → (day : History) (n : ℕ) → length (of_trade n (lines_of h day past)) ≡ sent_by_all n past h.exchanges
 unfolding lines_of
 lines_by_exchange {h} none day n = unfold of_trade keep in none_sent n h.exchanges
@@ -97,12 +102,9 @@ lines_by_exchange {h} (more {past} {e} v i b r) day n =
     let p = sender_in h e i s in
     let y = predecessor (satisfaction e).sender p.0 in
     by_test ((satisfaction e).trade == n)
-    (λ t. rw (s, long, of_trade_lem, t, ih, all_one_more n e past y.0 h.exchanges y.1 (omega (arith, p.1, y.1)) (unfold claims_for in rw (s, t, eq-eqb _ _ y.1))) (omega arith))
-    (λ t. rw (s, long, of_trade_lem, t, ih, all_kept n e past h.exchanges (λ x k. claims_for_trade n x e (rw (s, t)))) (omega arith)))
+    (λ t. rw (s, long, trade_of_line h day past (count is_satisfaction past) e, t, ih, all_one_more n e past y.0 h.exchanges y.1 (omega (arith, p.1, y.1)) (unfold claims_for in rw (s, t, eq-eqb _ _ y.1))) (omega arith))
+    (λ t. rw (s, long, trade_of_line h day past (count is_satisfaction past) e, t, ih, all_kept n e past h.exchanges (λ x k. claims_for_trade n x e (rw (s, t)))) (omega arith)))
     (λ s. rw (s, append-nil (lines_of h day past), ih, all_kept n e past h.exchanges (λ x k. claims_for_trade n x e (rw s))))
-  where
-    of_trade_lem : (line_of h day past (count is_satisfaction past) e).trade ≡ (satisfaction e).trade
-    of_trade_lem = unfold line_of in refl
 
 -- ---- how many they are
 

@@ -1,5 +1,7 @@
 // What a sheet says, read into memory: three words for each line. Bytes that are not "exactly three readable numbers per Satisfaction
 // Order" are refused here (20).
+#![tactic(auto)]
+
 ghost use Rattle.std.specs.Prelude.{◌≡◌, ◌*◌, ◌≤◌, length};
 ghost use Rattle.rules.specs.Limits.{most_satisfaction_orders};
 ghost use Rattle.said.specs.Said.{three_at, LinesRead, SheetRead};

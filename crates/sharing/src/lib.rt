@@ -1,4 +1,6 @@
 // How what is due on a trade is shared out among its lines, which are the first k words of arrays, as in `fairness`.
+#![tactic(auto)]
+
 ghost use Rattle.std.specs.Prelude.{◌≡◌, ◌≤◌};
 ghost use Rattle.rules.specs.Limits.{most_trade_lines};
 ghost use Rattle.sharing.specs.Turns.{sooner_of, NextTurn, Given, SharedOut};

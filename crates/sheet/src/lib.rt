@@ -1,4 +1,6 @@
 // Our own sheet, out of the tables that the walk of a journal leaves.
+#![tactic(auto)]
+
 ghost use Rattle.std.specs.Prelude.{◌≡◌, ◌-◌, ◌*◌, ◌≤◌, ◌<◌};
 ghost use Rattle.rules.specs.Limits.{most_trades, most_satisfaction_orders};
 ghost use Rattle.text.specs.Lent.{Takes};

@@ -1,4 +1,6 @@
 // All tables of a day's events, and one record more: quotes and statuses as they stand, sent orders, trades, Satisfaction Orders.
+#![tactic(auto)]
+
 ghost use Rattle.orders.specs.Orders.{Headed};
 ghost use Rattle.tables.specs.Tables.{tables, Orderly, FitsTables, TablesStep};
 

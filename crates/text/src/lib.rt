@@ -1,4 +1,6 @@
 // The printed day's text in lent memory. What is named put asks for the room and cannot fail; what is named write asks nothing and answers 9 where room lacks.
+#![tactic(auto)]
+
 ghost use Rattle.std.specs.Prelude.{◌+◌, ◌^◌, ◌≤◌, ◌<◌, length};
 ghost use Rattle.rules.specs.PrintedDay.{decimal, first_line, refusal_text};
 ghost use Rattle.text.specs.Lent.{Wrote, Takes, Writes};

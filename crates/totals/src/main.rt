@@ -1,4 +1,6 @@
 // The day totals of the journal on standard input: `sent N filled N cancelled N pending N`, or the refusal.
+#![tactic(auto)]
+
 use feed::{Input, Room};
 use journal::DayTotals;
 use libc::STDOUT_FILENO;

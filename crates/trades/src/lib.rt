@@ -1,4 +1,6 @@
 // Trades: what is kept of each, so that its later Satisfaction Orders are judged by the prices, customer contracts and statuses at the trade.
+#![tactic(auto)]
+
 ghost use Rattle.std.specs.Prelude.{◌≡◌, ◌+◌, ◌*◌, ◌<◌, ◌≤◌};
 ghost use Rattle.rules.specs.Limits.{most_exchanges, most_trades};
 ghost use Rattle.quotes.specs.Tables.{many_series, Within};

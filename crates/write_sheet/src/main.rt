@@ -1,4 +1,6 @@
 // Our own sheet of the journal on standard input, as bytes on standard output. A refusal goes to standard error: on standard output stands a whole sheet or nothing.
+#![tactic(auto)]
+
 use feed::{Input, Room};
 use journal::Rewritten;
 use libc::STDERR_FILENO;
