@@ -52,7 +52,7 @@ impl Reply {
 }
 
 // What an entry answers as one number: a refusal's number × 2^32 + its place, or how much was written.
-#[derive(Drop)]
+#[derive(Clone, Copy)]
 struct Coded {
     refusal: u64,
     low: u64,

@@ -4,7 +4,7 @@ ghost use Rattle.std.specs.Prelude.{◌≤◌};
 use feed::Input;
 
 // The number of the line in the text, or the end of the input, or a read that failed.
-#[derive(Drop)]
+#[derive(Clone, Copy)]
 pub enum Line {
     Read(u32),
     End,
@@ -17,7 +17,7 @@ impl Line {
 }
 
 // A number, and the place after its last digit.
-#[derive(Drop)]
+#[derive(Clone, Copy)]
 struct Found {
     value: u32,
     next: usize,

@@ -11,7 +11,7 @@ use said::Said;
 use trades::{Shown, Trades};
 
 // Whose sheet it is; how many of its lines could be read, and the place where that ended; the check's refusal, 0 where it was accepted, and its place.
-#[derive(Drop)]
+#[derive(Clone, Copy)]
 pub struct Sheet {
     pub own: bool,
     pub lines: usize,

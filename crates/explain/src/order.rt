@@ -9,7 +9,7 @@ use counted::SatisfactionOrder;
 use limits::Exchanges;
 use trades::{Kept, Shown, Snap, Trades};
 
-#[derive(Drop)]
+#[derive(Clone, Copy)]
 pub struct Order {
     pub number: usize,
     pub trade: u32,
@@ -45,7 +45,7 @@ pub fn order_at(
     }
 }
 
-#[derive(Drop)]
+#[derive(Clone, Copy)]
 pub struct Traded {
     pub price: u32,
     pub size: u32,
@@ -74,7 +74,7 @@ pub fn trade_at(trades: &[u32; Trades::WORDS], shown: &[u32; Shown::WORDS], m: u
 }
 
 // The side of the sender that was traded through, the price there, and one above the number of the sent order that excuses home.
-#[derive(Drop)]
+#[derive(Clone, Copy)]
 pub struct There {
     pub side: u32,
     pub price: u32,
@@ -115,7 +115,7 @@ pub fn there_at(shown: &[u32; Shown::WORDS], m: usize, sender: u32) -> There
 
 // Which of its sender's orders for a trade an order is. Home may cancel the first, priced as for a block that was none, and then there may be a
 // second.
-#[derive(Drop)]
+#[derive(Clone, Copy)]
 pub enum Turn {
     Only,
     // When home cancelled it.

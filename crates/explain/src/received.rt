@@ -10,7 +10,7 @@ use orders::{Duty, Order};
 use rows::{Rec, Type, Way};
 
 // A line R: its event, a, b and c.
-#[derive(Drop)]
+#[derive(Clone, Copy)]
 struct Verdict {
     event: u32,
     duty: u32,
@@ -45,7 +45,7 @@ fn row_from(list: &[u32; Row::MOST * Row::WORDS], listed: usize, from: usize, ev
 }
 
 // An exchange's "initial execution": the newest of its principal orders with the verdict whole.
-#[derive(Drop)]
+#[derive(Clone, Copy)]
 struct Execution {
     event: u32,
     time: u32,

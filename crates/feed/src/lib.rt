@@ -12,7 +12,7 @@ use text::Written;
 use walk::Journal;
 
 // How much of the buffer was filled, by all of the input or by as much as there is room for; or a read failed.
-#[derive(Drop)]
+#[derive(Clone, Copy)]
 pub enum Input {
     Taken(usize),
     Failed,

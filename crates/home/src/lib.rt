@@ -11,7 +11,7 @@ use quotes::{Quote, Quotes};
 use rows::Rec;
 
 // What a home quote's verdict looks at.
-#[derive(Drop)]
+#[derive(Clone, Copy)]
 pub struct HomeQuote {
     pub series: usize,
     pub bid: u32,
@@ -19,7 +19,7 @@ pub struct HomeQuote {
 }
 
 // Q: the exchange named, and the side of home's quote.
-#[derive(Drop)]
+#[derive(Clone, Copy)]
 pub enum Against {
     Clear,
     Locked(u32, u32),
@@ -35,7 +35,7 @@ impl Against {
 }
 
 // Where a search for a side ended: an exchange and the side, or nowhere.
-#[derive(Drop)]
+#[derive(Clone, Copy)]
 pub enum Found {
     At(u32, u32),
     Nowhere,

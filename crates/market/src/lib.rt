@@ -18,7 +18,7 @@ use quotes::{Quotes, Statuses};
 use rows::Rec;
 
 // What is printed of a record: its letter, and a, b, c.
-#[derive(Drop)]
+#[derive(Clone, Copy)]
 pub enum Judged {
     Nothing,
     Q(u32, u32, u32),

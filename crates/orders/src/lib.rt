@@ -11,7 +11,7 @@ use quotes::{Quote, Quotes, Statuses};
 use rows::{Rec, Status, Type, Way};
 
 // What a record of kind 4 or 6 holds: `other` is "to" of a sent order, "from" of a received one.
-#[derive(Drop)]
+#[derive(Clone, Copy)]
 pub struct Order {
     pub kind: u32,
     pub other: usize,
@@ -22,7 +22,7 @@ pub struct Order {
 }
 
 // S.
-#[derive(Drop)]
+#[derive(Clone, Copy)]
 pub enum Sent {
     Fine,
     NotShown,
@@ -38,7 +38,7 @@ impl Sent {
 }
 
 // R: none, and the reason; the whole order; at least so many contracts.
-#[derive(Drop)]
+#[derive(Clone, Copy)]
 pub enum Duty {
     NoDuty(u32),
     Whole(u32),

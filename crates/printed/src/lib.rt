@@ -14,7 +14,7 @@ use rows::Refusal;
 use text::{What, Written};
 
 // What a line says.
-#[derive(Drop)]
+#[derive(Clone, Copy)]
 struct Shown {
     event: u32,
     what: u8,

@@ -80,7 +80,7 @@ impl Receipt {
 // What a Satisfaction Order is judged by: of its sender at the trade the side traded through, the price and the customer
 // contracts there, the status and what excused home (0 nothing); home's status; of the trade; of the order, and when its sender's first
 // was cancelled so that it could be sent again (one above the time, 0 for a first one).
-#[derive(Drop)]
+#[derive(Clone, Copy)]
 pub struct Facts {
     pub side: u32,
     pub there: u32,

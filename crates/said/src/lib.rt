@@ -11,7 +11,7 @@ use number::Field;
 use rows::Refusal;
 
 // What the check answers: yes, or the first fault with its place.
-#[derive(Drop)]
+#[derive(Clone, Copy)]
 pub enum Checked {
     Accepted,
     Refused { no: u32, place: usize },
@@ -32,7 +32,7 @@ impl Said {
 }
 
 // One line of a sheet with the place after it, or the place of the number that can't be read.
-#[derive(Drop)]
+#[derive(Clone, Copy)]
 enum Three {
     Read {
         reason: u32,
@@ -76,7 +76,7 @@ fn read_line(sheet: &[u8], at: usize) -> Three
 }
 
 // How many lines could be read, and the place after the last of them, or of the number that can't be read.
-#[derive(Drop)]
+#[derive(Clone, Copy)]
 pub struct Reach {
     pub lines: usize,
     pub place: usize,

@@ -8,7 +8,7 @@ ghost use Rattle.sharing.specs.Turns.{sooner_of, NextTurn, Given, SharedOut};
 use rows::TradeLines;
 
 // The line that the next contract goes to: its number, its fill with that contract, its customer contracts.
-#[derive(Drop)]
+#[derive(Clone, Copy)]
 struct Turn {
     line: usize,
     fill: u32,

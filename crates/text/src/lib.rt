@@ -9,7 +9,7 @@ ghost use Rattle.text.specs.Lines.{pair_of, line_of, field_of, head_of, tail_of,
 use rows::Refusal;
 
 // What a writer answers: the place after its last byte, or a refusal's number.
-#[derive(Drop)]
+#[derive(Clone, Copy)]
 pub enum Written {
     To(usize),
     Refused(u32),

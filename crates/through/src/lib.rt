@@ -11,7 +11,7 @@ use quotes::{Quote, Quotes};
 use rows::{Form, Rec};
 
 // What a trade's verdicts look at.
-#[derive(Drop)]
+#[derive(Clone, Copy)]
 pub struct Trade {
     pub series: usize,
     pub price: u32,
