@@ -8,7 +8,8 @@ use native.Mathlib.Numerals.{add-one}
 use native.Mathlib.Omega.{arith}
 use lib.ListN.{length, take}
 use borrow.Author.Tests.{eq-eqb, ne_eqb, not-true, not-false}
-use Rattle.rules.specs.Basics.{◌==◌, below, keep, sum, Answer, refused, ok, ◌>>=◌, Passed, demand}
+use Rattle.std.specs.Prelude.{◌==◌}
+use Rattle.rules.specs.Basics.{below, keep, sum, Answer, refused, ok, ◌>>=◌, Passed, demand}
 use Rattle.rules.specs.Limits.{most_trades}
 use Rattle.rules.specs.Refusals.{not_the_due_total, share_rule_broken}
 use Rattle.rules.specs.Journal.{Journal}

@@ -7,7 +7,8 @@ use native.Mathlib.Omega.{arith}
 use lib.ListN.{get_or, set, length-set}
 use lib.Seq.{get_or-set_same, get_or-set_other}
 use borrow.Author.Tests.{eq-eqb, ne_eqb, eqb-true, eqb-false}
-use Rattle.rules.specs.Basics.{◌==◌, sum}
+use Rattle.std.specs.Prelude.{◌==◌}
+use Rattle.rules.specs.Basics.{sum}
 use Rattle.rules.specs.Limits.{most_exchanges, most_trades, most_satisfaction_orders, most_trade_lines, last_time}
 use Rattle.rules.specs.Header.{Header}
 use Rattle.rules.specs.Record.{Event, field, is_satisfaction, satisfaction_kind, naming_kind, cancellation_kind}

@@ -2,8 +2,8 @@
 -- a part for each trade: the numbers of its lines in their order, how many they are, and the sum of their claims. The row's last three
 -- words are the order's sender, its own price and when it came: a clerk is told them, and a record that cancels the order goes by the
 -- sender or by the time. Behind the parts each exchange has a word for each trade: when its claim was cancelled so that it may send again.
-use Rattle.std.specs.Prelude.{◌≡◌, true, List, ◌∷◌, map, ℕ, ◌+◌, ◌-◌, ◌*◌, ◌<◌, ◌≤◌, get_or, length, set, take}
-use Rattle.rules.specs.Basics.{if◌then◌else◌, below, sum}
+use Rattle.std.specs.Prelude.{◌≡◌, true, List, ◌∷◌, map, ℕ, ◌+◌, ◌-◌, ◌*◌, ◌<◌, ◌≤◌, get_or, length, set, take, if◌then◌else◌}
+use Rattle.rules.specs.Basics.{below, sum}
 use Rattle.rules.specs.Limits.{most_exchanges, most_trades, most_satisfaction_orders, most_trade_lines, most_contracts, last_time}
 use Rattle.rules.specs.Header.{Header}
 use Rattle.rules.specs.Record.{Event, satisfaction, is_satisfaction, satisfaction_kind, naming_kind, cancellation_kind}

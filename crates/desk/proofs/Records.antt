@@ -8,7 +8,8 @@ use native.Mathlib.Omega.{arith}
 use lib.ListN.{length, get_or, take, drop, set, replicate, length-append, length-drop, length-set, drop_of_length-le, length-replicate, get_or-replicate, get_or-append}
 use lib.Seq.{length-take-le, drop-drop, take_at, take-append-add, ext_get_or, get_or-take, get_or-drop}
 use borrow.Author.Tests.{le-leb, lt-leb, eq-eqb, ne_eqb}
-use Rattle.rules.specs.Basics.{◌==◌, within, refused, ok, ◌>>=◌}
+use Rattle.std.specs.Prelude.{◌==◌}
+use Rattle.rules.specs.Basics.{within, refused, ok, ◌>>=◌}
 use Rattle.rules.specs.Refusals.{output_too_short}
 use Rattle.rules.specs.Number.{start_of, onward}
 use Rattle.rules.specs.Header.{Header}

@@ -1,6 +1,6 @@
 -- The functions that are given a header or a record as numbers: how many they take, and what each number is.
-use Rattle.std.specs.Prelude.{List, ◌∷◌, ◌++◌, ℕ, ◌+◌, ◌*◌, ◌-◌, ◌%◌, length, get_or, take, drop, replicate}
-use Rattle.rules.specs.Basics.{if◌then◌else◌, ◌==◌, within, Answer, ◌>>=◌, demand}
+use Rattle.std.specs.Prelude.{List, ◌∷◌, ◌++◌, ℕ, ◌+◌, ◌*◌, ◌-◌, ◌%◌, length, get_or, take, drop, replicate, if◌then◌else◌, ◌==◌}
+use Rattle.rules.specs.Basics.{within, Answer, ◌>>=◌, demand}
 use Rattle.rules.specs.Record.{batch_kind, Recorded}
 use Rattle.rules.specs.Writing.{no_place, into, write_header, write_record, read_record}
 use Rattle.header.specs.Head.{as_header}

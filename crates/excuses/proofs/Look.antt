@@ -7,7 +7,8 @@ use native.Mathlib.Omega.{arith}
 use lib.Dec.{eqb, ltb}
 use lib.ListN.{get_or}
 use borrow.Author.Tests.{eq-eqb, ne_eqb, eqb-true, eqb-false, ltb-true, ltb-false}
-use Rattle.rules.specs.Basics.{◌==◌, ◌more_than◌, any, below}
+use Rattle.std.specs.Prelude.{◌==◌}
+use Rattle.rules.specs.Basics.{◌more_than◌, any, below}
 use Rattle.rules.specs.Record.{order, is_sent}
 use Rattle.rules.specs.Journal.{History, count, sent_at}
 use Rattle.rules.specs.Reasons.{excuse_wait, excuses, had_sent}

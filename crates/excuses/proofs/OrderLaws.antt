@@ -7,7 +7,8 @@ use native.Mathlib.Omega.{arith}
 use lib.Dec.{eqb}
 use lib.ListN.{get_or}
 use borrow.Author.Tests.{eq-eqb, ne_eqb, eqb-true, eqb-false}
-use Rattle.rules.specs.Basics.{◌==◌, any, bit}
+use Rattle.std.specs.Prelude.{◌==◌}
+use Rattle.rules.specs.Basics.{any, bit}
 use Rattle.rules.specs.Record.{Event, Order, field, order, is_sent, quote_kind, sent_kind, response_kind}
 use Rattle.rules.specs.Journal.{History, count, since, sent_at, answers}
 use Rattle.rules.specs.Prices.{quotes}

@@ -8,7 +8,8 @@ use lib.Dec.{eqb, ltb}
 use lib.ListN.{get_or, length, set}
 use lib.Seq.{get_or-set_same}
 use borrow.Author.Tests.{eq-eqb, ne_eqb, eqb-true, eqb-false, ltb-true, ltb-false}
-use Rattle.rules.specs.Basics.{◌==◌, bit}
+use Rattle.std.specs.Prelude.{◌==◌}
+use Rattle.rules.specs.Basics.{bit}
 use Rattle.rules.specs.Limits.{most_sent_orders}
 use Rattle.rules.specs.Record.{Event, order, is_sent, quote_kind}
 use Rattle.rules.specs.Journal.{History, count, sent_at}

@@ -1,7 +1,7 @@
 -- Reason 2: the table of sent orders, a row of eight words for each (its six fields, its time, whether its excuse stands), and
 -- the chains by which a quote or a trade finds the orders to one exchange in one series.
-use Rattle.std.specs.Prelude.{◌≡◌, Bool, false, not, ◌&&◌, ◌||◌, List, ◌∷◌, ℕ, zero, suc, ◌+◌, ◌-◌, ◌*◌, ◌<◌, ◌≤◌, get_or, length}
-use Rattle.rules.specs.Basics.{if◌then◌else◌, ◌==◌, ◌more_than◌, any, bit}
+use Rattle.std.specs.Prelude.{◌≡◌, Bool, false, not, ◌&&◌, ◌||◌, List, ◌∷◌, ℕ, zero, suc, ◌+◌, ◌-◌, ◌*◌, ◌<◌, ◌≤◌, get_or, length, if◌then◌else◌, ◌==◌}
+use Rattle.rules.specs.Basics.{◌more_than◌, any, bit}
 use Rattle.rules.specs.Limits.{most_exchanges, most_sent_orders}
 use Rattle.rules.specs.Record.{buy, Event, field, order, is_sent, sent_kind, response_kind, quote_kind}
 use Rattle.rules.specs.Journal.{History, count, since, sent_at}

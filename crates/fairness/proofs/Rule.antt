@@ -9,7 +9,8 @@ use lib.Dec.{eqb, ltb, leb}
 use lib.ListN.{length}
 use borrow.Author.Count.{below_more}
 use borrow.Author.Tests.{lt-ltb, le-ltb, leb-true, leb-false, not-true, not-false, eqb-true, eqb-false}
-use Rattle.rules.specs.Basics.{◌==◌, all, keep}
+use Rattle.std.specs.Prelude.{◌==◌}
+use Rattle.rules.specs.Basics.{all, keep}
 use Rattle.rules.specs.Due.{Share, fair, share_rule}
 use Rattle.rules.proofs.Tests.{by_test, and_left, and_right}
 use Rattle.rules.proofs.Giving.{Within, Fair, fair_says, says_fair}

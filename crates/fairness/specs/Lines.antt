@@ -1,7 +1,6 @@
 -- One trade's lines as the first k words of small arrays, and the share rule among them.
-use Rattle.std.specs.Prelude.{◌≡◌, Bool, false, ℕ, ◌<◌, ◌≤◌, get_or, length, take}
+use Rattle.std.specs.Prelude.{◌≡◌, Bool, false, ℕ, ◌<◌, ◌≤◌, get_or, length, take, ◌==◌}
 use mathlib.Core.List.{List, Memᴰ}
-use Rattle.rules.specs.Basics.{◌==◌}
 use Rattle.rules.specs.Limits.{most_trade_lines}
 use Rattle.rules.specs.Due.{Line, claims_of, customers_of, Share, share_rule}
 use Rattle.rules.specs.SheetCheck.{fills_of}

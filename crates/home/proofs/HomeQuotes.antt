@@ -8,7 +8,8 @@ use native.Mathlib.Numerals.{add-one}
 use lib.Dec.{eqb}
 use lib.ListN.{get_or}
 use borrow.Author.Tests.{eqb-true, eqb-false, eq-eqb, ne_eqb}
-use Rattle.rules.specs.Basics.{if◌then◌else◌, first_of, keep}
+use Rattle.std.specs.Prelude.{if◌then◌else◌}
+use Rattle.rules.specs.Basics.{first_of, keep}
 use Rattle.rules.specs.Limits.{most_exchanges}
 use Rattle.rules.specs.Header.{Header}
 use Rattle.rules.specs.Record.{Quote}

@@ -1,6 +1,6 @@
 -- Home quotes: the code's answers as the paper's numbers, and what is promised of every history that the table holds.
-use Rattle.std.specs.Prelude.{◌≡◌, Bool, List, [], ℕ}
-use Rattle.rules.specs.Basics.{if◌then◌else◌, ◌==◌, ◌when◌, ◌¦◌, first_of}
+use Rattle.std.specs.Prelude.{◌≡◌, Bool, List, [], ℕ, if◌then◌else◌, ◌==◌}
+use Rattle.rules.specs.Basics.{◌when◌, ◌¦◌, first_of}
 use Rattle.rules.specs.Header.{Header}
 use Rattle.rules.specs.Record.{Quote}
 use Rattle.rules.specs.Journal.{History}

@@ -7,7 +7,7 @@ use Prim.Native.String.{String}
 use native.Mathlib.Omega.{arith}
 use lib.ListN.{length}
 use borrow.Author.Tests.{ne_eqb, eqb-true}
-use Rattle.rules.specs.Basics.{◌==◌}
+use Rattle.std.specs.Prelude.{◌==◌}
 use Rattle.rules.specs.Header.{Header}
 use Rattle.rules.specs.Record.{quote_kind, trade_kind, sent_kind, received_kind, satisfaction_kind, fields_among, fields_of, Event, quote, is_quote, is_trade, is_sent, is_received, is_satisfaction}
 use Rattle.rules.specs.Journal.{History, count}

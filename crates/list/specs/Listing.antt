@@ -1,8 +1,8 @@
 -- The day's list as rows: five words for each line that will be printed, its event, its letter as a byte, a, b and c.
 -- Of a Satisfaction Order a is the number of its line: what stands there in our own sheet is looked up when the list is printed.
-use Rattle.std.specs.Prelude.{◌≡◌, ℕ, ◌+◌, ◌*◌, ◌%◌, ◌<◌, ◌≤◌, get_or, length}
+use Rattle.std.specs.Prelude.{◌≡◌, ℕ, ◌+◌, ◌*◌, ◌%◌, ◌<◌, ◌≤◌, get_or, length, if◌then◌else◌, ◌==◌}
 use mathlib.Core.List.{List, ◌∷◌, ◌++◌, flat_map}
-use Rattle.rules.specs.Basics.{if◌then◌else◌, ◌==◌, below}
+use Rattle.rules.specs.Basics.{below}
 use Rattle.rules.specs.Header.{Header}
 use Rattle.rules.specs.Record.{Event, is_trade, is_sent, is_satisfaction}
 use Rattle.rules.specs.Journal.{History, happened, DayRecords, count}

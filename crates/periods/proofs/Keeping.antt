@@ -7,7 +7,7 @@ use native.Mathlib.Omega.{arith}
 use lib.ListN.{get_or, length, set, length-set, replicate, length-replicate, get_or-replicate}
 use lib.Seq.{get_or-set_same, get_or-set_other}
 use borrow.Author.Tests.{eq-eqb, ne_eqb, eqb-true, eqb-false, not-true, not-false}
-use Rattle.rules.specs.Basics.{◌==◌}
+use Rattle.std.specs.Prelude.{◌==◌}
 use Rattle.rules.specs.Limits.{most_exchanges}
 use Rattle.rules.specs.Header.{Header}
 use Rattle.rules.specs.Record as paper

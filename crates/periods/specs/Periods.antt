@@ -1,6 +1,6 @@
 -- The table of periods beside the history, and what is promised of a received order and of a home quote.
-use Rattle.std.specs.Prelude.{◌≡◌, Bool, not, ◌&&◌, ◌||◌, List, ◌∷◌, ℕ, ◌+◌, ◌-◌, ◌*◌, ◌<◌, ◌≤◌, get_or, length}
-use Rattle.rules.specs.Basics.{if◌then◌else◌, ◌==◌, ◌at_most◌}
+use Rattle.std.specs.Prelude.{◌≡◌, Bool, not, ◌&&◌, ◌||◌, List, ◌∷◌, ℕ, ◌+◌, ◌-◌, ◌*◌, ◌<◌, ◌≤◌, get_or, length, if◌then◌else◌, ◌==◌}
+use Rattle.rules.specs.Basics.{◌at_most◌}
 use Rattle.rules.specs.Limits.{most_exchanges}
 use Rattle.rules.specs.Header.{Header}
 use Rattle.rules.specs.Record.{Event, field, principal_order, buy, quote_kind}

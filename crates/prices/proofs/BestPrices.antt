@@ -9,7 +9,7 @@ use native.Mathlib.Numerals.{add-one}
 use lib.Dec.{eqb, ltb}
 use lib.ListN.{get_or}
 use borrow.Author.Tests.{eq-eqb, ne_eqb, eqb-true, le-ltb}
-use Rattle.rules.specs.Basics.{◌==◌}
+use Rattle.std.specs.Prelude.{◌==◌}
 use Rattle.rules.specs.Limits.{most_exchanges}
 use Rattle.rules.specs.Record.{Quote}
 use Rattle.rules.specs.Journal.{History}

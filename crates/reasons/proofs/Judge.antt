@@ -7,7 +7,8 @@ use Prim.Native.Nat.{ℕ, ◌+◌, ◌-◌, ◌≤◌}
 use native.Mathlib.Omega.{arith}
 use lib.ListN.{get_or, length}
 use borrow.Author.Tests.{ne_eqb, leb-true, leb-false, lt-ltb, le-ltb}
-use Rattle.rules.specs.Basics.{if◌then◌else◌, ◌==◌, ◌at_most◌, ◌at_least◌, ◌more_than◌, any, first_of}
+use Rattle.std.specs.Prelude.{if◌then◌else◌, ◌==◌}
+use Rattle.rules.specs.Basics.{◌at_most◌, ◌at_least◌, ◌more_than◌, any, first_of}
 use Rattle.rules.specs.Limits.{closing_minutes}
 use Rattle.rules.specs.Header.{Header}
 use Rattle.rules.specs.Record.{buy, sell, Event, trade, satisfaction}

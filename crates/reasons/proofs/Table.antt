@@ -6,7 +6,8 @@ use Prim.Native.Nat.{ℕ, ◌+◌, ◌-◌, ◌≤◌, ◌<◌, min}
 use native.Mathlib.Omega.{arith}
 use lib.Dec.{eqb, leb, ltb}
 use borrow.Author.Tests.{eq-eqb, ne_eqb, le-leb, lt-leb, leb-true, leb-false, not-true}
-use Rattle.rules.specs.Basics.{if◌then◌else◌, ◌==◌, Row, first_of, all}
+use Rattle.std.specs.Prelude.{if◌then◌else◌, ◌==◌}
+use Rattle.rules.specs.Basics.{Row, first_of, all}
 use Rattle.rules.specs.Limits.{closing_minutes}
 use Rattle.rules.specs.Record.{not_firm, rotation, complex_trade}
 use Rattle.rules.specs.Verdicts.{neither}

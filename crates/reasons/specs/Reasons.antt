@@ -1,6 +1,6 @@
 -- "Reasons on a Satisfaction Order, first that holds", over the numbers that its trade kept.
-use Rattle.std.specs.Prelude.{Bool, not, ◌&&◌, List, [], ◌∷◌, ◌++◌, ℕ, ◌+◌, ◌-◌}
-use Rattle.rules.specs.Basics.{if◌then◌else◌, ◌==◌, ◌at_least◌, ◌more_than◌, Row, ◌when◌, ◌¦◌, first_of}
+use Rattle.std.specs.Prelude.{Bool, not, ◌&&◌, List, [], ◌∷◌, ◌++◌, ℕ, ◌+◌, ◌-◌, if◌then◌else◌, ◌==◌}
+use Rattle.rules.specs.Basics.{◌at_least◌, ◌more_than◌, Row, ◌when◌, ◌¦◌, first_of}
 use Rattle.rules.specs.Limits.{closing_minutes}
 use Rattle.rules.specs.Record.{not_firm, rotation, complex_trade}
 use Rattle.rules.specs.Journal.{History}

@@ -1,8 +1,7 @@
 // One Satisfaction Order, judged by its facts: the reason on it, and its claim.
 #![tactic(auto)]
 
-ghost use Rattle.std.specs.Prelude.{◌≡◌, ◌&&◌, ◌≤◌};
-ghost use Rattle.rules.specs.Basics.{◌==◌};
+ghost use Rattle.std.specs.Prelude.{◌≡◌, ◌&&◌, ◌≤◌, ◌==◌};
 ghost use Rattle.rules.specs.Reasons.{three_minutes};
 ghost use Rattle.rules.specs.Due.{least_of, limited};
 ghost use Rattle.rules.proofs.Naming.{named};

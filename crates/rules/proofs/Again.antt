@@ -7,7 +7,8 @@ use Prim.Native.Nat.{ℕ, ◌<◌}
 use native.Mathlib.Omega.{arith}
 use lib.ListN.{length}
 use borrow.Author.Tests.{eqb-true, eqb-false, eq-eqb, not-true}
-use Rattle.rules.specs.Basics.{if◌then◌else◌, ◌==◌, ◌less_than◌, all, any, keep, Row, first_of, ok}
+use Rattle.std.specs.Prelude.{if◌then◌else◌, ◌==◌}
+use Rattle.rules.specs.Basics.{◌less_than◌, all, any, keep, Row, first_of, ok}
 use Rattle.rules.specs.Header.{Header}
 use Rattle.rules.specs.Record.{Event, trade, satisfaction, is_trade, is_satisfaction, is_cancellation, cancellation}
 use Rattle.rules.specs.Journal.{History, Journal, journal, count, satisfaction_at, withdraws, claims_for, takes_back, taken_back, still_claims, satisfaction_belongs}

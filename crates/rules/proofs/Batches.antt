@@ -7,7 +7,8 @@ use Prim.Native.Nat.{ℕ, zero, suc, ◌≤◌}
 use native.Mathlib.Omega.{arith}
 use lib.ListN.{length, take, drop}
 use borrow.Author.Tests.{eqb-true}
-use Rattle.rules.specs.Basics.{◌==◌, any, ok, Passed}
+use Rattle.std.specs.Prelude.{◌==◌}
+use Rattle.rules.specs.Basics.{any, ok, Passed}
 use Rattle.rules.specs.Limits.{most_journal_bytes}
 use Rattle.rules.specs.Number.{Bytes}
 use Rattle.rules.specs.Header.{Header, header_in_range}

@@ -9,7 +9,8 @@ use native.Mathlib.Nat.{zero-mul}
 use native.Mathlib.Omega.{arith}
 use lib.ListN.{length, get_or}
 use borrow.Author.Tests.{eqb-true, eqb-false, eq-eqb, leb-true, le-leb}
-use Rattle.rules.specs.Basics.{◌==◌, all, sum, keep, Answer, ok, refused, ◌>>=◌, Passed, demand}
+use Rattle.std.specs.Prelude.{◌==◌}
+use Rattle.rules.specs.Basics.{all, sum, keep, Answer, ok, refused, ◌>>=◌, Passed, demand}
 use Rattle.rules.specs.Number.{storable, Bytes, Spot, start_of, bytes_of_all}
 use Rattle.rules.specs.Record.{is_trade}
 use Rattle.rules.specs.Journal.{Journal, journal, count}

@@ -8,7 +8,8 @@ use Prim.Native.Nat.{ℕ, ◌+◌, ◌≤◌, ◌<◌}
 use native.Mathlib.Omega.{arith}
 use lib.ListN.{length}
 use borrow.Author.Tests.{eqb-true, eq-eqb, ne_eqb, not-true, ltb-true, ltb-false}
-use Rattle.rules.specs.Basics.{if◌then◌else◌, ◌==◌, ◌less_than◌, any, bit, keep}
+use Rattle.std.specs.Prelude.{if◌then◌else◌, ◌==◌}
+use Rattle.rules.specs.Basics.{◌less_than◌, any, bit, keep}
 use Rattle.rules.specs.Header.{Header}
 use Rattle.rules.specs.Record.{Event, response_kind, satisfaction_kind, naming_kind, closing_kind, cancellation_kind, trade, satisfaction, is_response, is_satisfaction, is_naming, is_cancellation, naming, cancellation}
 use Rattle.rules.specs.Journal.{History, Happened, nothing, count, nth, trade_at, satisfaction_at, before_trade, names, withdraws, cancels, claims_for, takes_back, taken_back, still_claims, satisfaction_belongs, cancellation_belongs, belongs}

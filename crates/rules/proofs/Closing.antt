@@ -8,7 +8,8 @@ use mathlib.Core.List.{List, [], ◌∷◌, map, Memᴰ}
 use Prim.Native.Nat.{ℕ, ◌≤◌, ◌<◌}
 use native.Mathlib.Omega.{arith}
 use lib.ListN.{length}
-use Rattle.rules.specs.Basics.{if◌then◌else◌, ◌==◌, any, ok}
+use Rattle.std.specs.Prelude.{if◌then◌else◌, ◌==◌}
+use Rattle.rules.specs.Basics.{any, ok}
 use Rattle.rules.specs.Header.{Header}
 use Rattle.rules.specs.Record.{Event, trade, satisfaction, is_trade, is_satisfaction, is_closing}
 use Rattle.rules.specs.Journal.{History, Journal, journal, count, nth, trade_at, before_trade, closing_begun}

@@ -8,7 +8,8 @@ use native.Mathlib.Omega.{arith}
 use lib.ListN.{length, get_or, length-append, get_or-append}
 use lib.Seq.{get_or_at}
 use borrow.Author.Tests.{leb-true, ltb-true, ltb-false, eqb-true, ne_eqb}
-use Rattle.rules.specs.Basics.{if◌then◌else◌, ◌==◌, ◌at_most◌, ◌less_than◌, within, all, keep, sum, Row, first_of, ok}
+use Rattle.std.specs.Prelude.{if◌then◌else◌, ◌==◌}
+use Rattle.rules.specs.Basics.{◌at_most◌, ◌less_than◌, within, all, keep, sum, Row, first_of, ok}
 use Rattle.rules.specs.Limits.{most_contracts}
 use Rattle.rules.specs.Header.{Header}
 use Rattle.rules.specs.Record.{Event, Field, contracts, fits, fit_all, fields_among, fields_of, field, trade, satisfaction, is_trade, is_response, is_satisfaction, satisfaction_kind}

@@ -7,7 +7,8 @@ use mathlib.Core.List.{List, [], ◌∷◌, map, map-append, map-id, append-nil,
 use Prim.Native.Nat.{ℕ, ◌+◌, ◌<◌}
 use native.Mathlib.Omega.{arith}
 use borrow.Author.Tests.{eqb-true, ne_eqb, not-true, ltb-true, lt-leb}
-use Rattle.rules.specs.Basics.{if◌then◌else◌, ◌==◌, within, ◌more_than◌, all, any, keep, Row, ◌when◌, first_of}
+use Rattle.std.specs.Prelude.{if◌then◌else◌, ◌==◌}
+use Rattle.rules.specs.Basics.{within, ◌more_than◌, all, any, keep, Row, ◌when◌, first_of}
 use Rattle.rules.specs.Header.{Header}
 use Rattle.rules.specs.Record.{Event, response_kind, satisfaction_kind, naming_kind, trade, satisfaction, trade_kind, is_trade, is_satisfaction, is_naming, naming}
 use Rattle.rules.specs.Journal.{History, count, trade_at, satisfaction_at, names, cancels, naming_belongs, belongs}

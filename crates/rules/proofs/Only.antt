@@ -8,7 +8,8 @@ use native.Mathlib.Omega.{arith}
 use lib.Dec.{eqb, lit<}
 use lib.ListN.{length}
 use borrow.Author.Tests.{eqb-true, eqb-false}
-use Rattle.rules.specs.Basics.{◌==◌, any, sum, keep, Answer, refused, ok}
+use Rattle.std.specs.Prelude.{◌==◌}
+use Rattle.rules.specs.Basics.{any, sum, keep, Answer, refused, ok}
 use Rattle.rules.specs.Number.{Bytes}
 use Rattle.rules.specs.Record.{is_trade}
 use Rattle.rules.specs.Journal.{Journal, journal, count}

@@ -4,7 +4,8 @@ use mathlib.Core.Bool.{true, false, true≢false, and-false}
 use Prim.Native.Nat.{ℕ, zero, suc, ◌≤◌, ◌<◌}
 use native.Mathlib.Omega.{arith}
 use borrow.Author.Tests.{lt-leb, ne_eqb}
-use Rattle.rules.specs.Basics.{if◌then◌else◌, ◌==◌, ◌at_least◌, within, any}
+use Rattle.std.specs.Prelude.{if◌then◌else◌, ◌==◌}
+use Rattle.rules.specs.Basics.{◌at_least◌, within, any}
 use Rattle.rules.specs.Header.{Header}
 use Rattle.rules.specs.Record.{quote_kind, satisfaction_kind, naming_kind, closing_kind, batch_kind, cancellation_kind, known, Event, is_response, is_satisfaction, is_naming, is_closing, is_cancellation}
 use Rattle.rules.specs.Journal.{History, response_belongs, satisfaction_belongs, belongs}

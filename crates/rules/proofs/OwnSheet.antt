@@ -7,7 +7,8 @@ use native.Mathlib.Nat.{zero-mul}
 use native.Mathlib.Omega.{arith}
 use lib.ListN.{length, length-map}
 use borrow.Author.Tests.{eqb-true, eq-eqb, ne_eqb, le-leb}
-use Rattle.rules.specs.Basics.{◌==◌, all, sum, keep, ok, ◌>>=◌, demand}
+use Rattle.std.specs.Prelude.{◌==◌}
+use Rattle.rules.specs.Basics.{all, sum, keep, ok, ◌>>=◌, demand}
 use Rattle.rules.specs.Number.{largest, storable, start_of, bytes_of_all}
 use Rattle.rules.specs.Record.{is_trade}
 use Rattle.rules.specs.Journal.{Journal, journal, count}

@@ -6,7 +6,8 @@ use mathlib.Core.List.{[], ◌∷◌, ◌++◌}
 use Prim.Native.Nat.{ℕ, ◌+◌, ◌<◌, ◌≤◌}
 use native.Mathlib.Omega.{arith}
 use borrow.Author.Tests.{ne_eqb, eq-eqb, leb-true, lt-leb}
-use Rattle.rules.specs.Basics.{◌==◌, ◌at_most◌, ◌more_than◌, all, any}
+use Rattle.std.specs.Prelude.{◌==◌}
+use Rattle.rules.specs.Basics.{◌at_most◌, ◌more_than◌, all, any}
 use Rattle.rules.specs.Header.{Header}
 use Rattle.rules.specs.Record.{linked, principal_order, Event, Order, order, is_received}
 use Rattle.rules.specs.Journal.{History}

@@ -6,7 +6,8 @@ use Prim.Native.Nat.{ℕ, zero, suc, ◌+◌, ◌-◌, ◌*◌, ◌≤◌, ◌<�
 use native.Mathlib.Omega.{arith}
 use lib.ListN.{length, length-append}
 use borrow.Author.Tests.{leb-true, eqb-true, eqb-false, eq-eqb, ne_eqb}
-use Rattle.rules.specs.Basics.{if◌then◌else◌, ◌==◌, ◌at_most◌, within, keep}
+use Rattle.std.specs.Prelude.{if◌then◌else◌, ◌==◌}
+use Rattle.rules.specs.Basics.{◌at_most◌, within, keep}
 use Rattle.rules.specs.Header.{Header}
 use Rattle.rules.specs.Record.{Event, another_exchange, fits, fit_all, fields_among, fields_of, field, satisfaction, is_satisfaction, satisfaction_kind}
 use Rattle.rules.specs.Journal.{History, count, claims_for}

@@ -1,10 +1,5 @@
 -- The words that the definitions are written in: choice, tests, tables of rules, lists, answers. Nothing of the desk's rules is here.
-use Rattle.std.specs.Prelude.{ℕ, zero, suc, ◌+◌, Bool, true, false, ◌&&◌, ◌||◌, List, [], ◌∷◌, ◌++◌, leb, ltb, eqb}
-
-infixr 10 if◌then◌else◌
-abbrev pub if◌then◌else◌ {ℓ} : {A : Type ℓ} → Bool → A → A → A
-if◌then◌else◌ true a b = a
-if◌then◌else◌ false a b = b
+use Rattle.std.specs.Prelude.{ℕ, zero, suc, ◌+◌, Bool, true, false, ◌&&◌, ◌||◌, List, [], ◌∷◌, ◌++◌, leb, ltb, eqb, cond, if◌then◌else◌, ◌==◌}
 
 -- 1 or 0
 abbrev pub bit : Bool → ℕ
@@ -12,10 +7,7 @@ bit b = if b then 1 else 0
 
 -- ---- tests on numbers
 
-infix 50 ◌==◌ ◌at_most◌ ◌at_least◌ ◌less_than◌ ◌more_than◌
-abbrev pub ◌==◌ : ℕ → ℕ → Bool
-m == n = eqb m n
-
+infix 40 ◌at_most◌ ◌at_least◌ ◌less_than◌ ◌more_than◌
 abbrev pub ◌at_most◌ : ℕ → ℕ → Bool
 m at_most n = leb m n
 
@@ -67,7 +59,7 @@ all f (x ∷ xs) = f x && all f xs
 
 unfoldable pub keep {ℓ} : {A : Type ℓ} → (A → Bool) → List A → List A
 keep f [] = []
-keep f (x ∷ xs) = if f x then x ∷ keep f xs else keep f xs
+keep f (x ∷ xs) = cond (f x) (x ∷ keep f xs) (keep f xs)
 
 -- 0, 1, .. below n
 unfoldable pub below : ℕ → List ℕ

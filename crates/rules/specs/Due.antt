@@ -1,6 +1,6 @@
 -- "What is due": claims, due totals, the share rule. All of it comes from the journal; no sheet is an argument of anything here.
-use Rattle.std.specs.Prelude.{ℕ, ◌+◌, ◌*◌, min, Bool, not, ◌||◌, List, [], ◌∷◌, ◌++◌, map}
-use Rattle.rules.specs.Basics.{if◌then◌else◌, ◌==◌, ◌at_least◌, ◌less_than◌, ◌more_than◌, any, all, keep, sum}
+use Rattle.std.specs.Prelude.{ℕ, ◌+◌, ◌*◌, min, Bool, not, ◌||◌, List, [], ◌∷◌, ◌++◌, map, if◌then◌else◌, ◌==◌}
+use Rattle.rules.specs.Basics.{◌at_least◌, ◌less_than◌, ◌more_than◌, any, all, keep, sum}
 use Rattle.rules.specs.Header.{Header, automatic}
 use Rattle.rules.specs.Record.{Event, Trade, trade, satisfaction, is_satisfaction}
 use Rattle.rules.specs.Journal.{History, Journal, count, trade_at, before_trade, closing_begun}

@@ -1,9 +1,9 @@
 -- "Thirteen proved examples": what the definitions say beside what the paper says, a row or more for each number.
 -- proofs/ThirteenExamples.antt shows that each row's two sides are the same.
-use Rattle.std.specs.Prelude.{ℕ, ◌+◌, ◌-◌, ◌&&◌}
+use Rattle.std.specs.Prelude.{ℕ, ◌+◌, ◌-◌, ◌&&◌, ◌==◌}
 use Prim.Native.String.{String}
 use mathlib.Core.List.{List, [], ◌∷◌, ◌++◌, flat_map}
-use Rattle.rules.specs.Basics.{Answer, refused, ok, all, sum, ◌==◌, bit}
+use Rattle.rules.specs.Basics.{Answer, refused, ok, all, sum, bit}
 use Rattle.rules.specs.Number.{Read, number, bytes_of, bytes_of_all, start_of}
 use Rattle.rules.specs.Header.{Header, header_bytes}
 use Rattle.rules.specs.Journal.{Journal, journal}

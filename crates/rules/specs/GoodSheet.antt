@@ -2,8 +2,8 @@
 -- each adding up to its order, each naming the journal's reason, none filled beyond its claim, each trade's fills make its
 -- due total, and no line short of its claim is more than one contract behind another of its trade in proportion to
 -- customer contracts. Claims and totals come from the journal alone.
-use Rattle.std.specs.Prelude.{ℕ, ◌+◌, ◌*◌, ◌≤◌, ◌<◌, ◌≡◌, true, List, [], ◌∷◌, length, get_or}
-use Rattle.rules.specs.Basics.{if◌then◌else◌, ◌==◌, sum}
+use Rattle.std.specs.Prelude.{ℕ, ◌+◌, ◌*◌, ◌≤◌, ◌<◌, ◌≡◌, true, List, [], ◌∷◌, length, get_or, if◌then◌else◌, ◌==◌}
+use Rattle.rules.specs.Basics.{sum}
 use Rattle.rules.specs.Number.{storable}
 use Rattle.rules.specs.Record.{is_trade}
 use Rattle.rules.specs.Journal.{Journal, count}

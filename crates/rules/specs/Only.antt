@@ -1,6 +1,6 @@
 -- "only": a test that goes through every way to fill some claims that makes a total.
-use Rattle.std.specs.Prelude.{ℕ, zero, suc, ◌-◌, min, Bool, true, false, not, ◌&&◌, ◌||◌, List, [], ◌∷◌}
-use Rattle.rules.specs.Basics.{◌==◌, any}
+use Rattle.std.specs.Prelude.{ℕ, zero, suc, ◌-◌, min, Bool, true, false, not, ◌&&◌, ◌||◌, List, [], ◌∷◌, ◌==◌}
+use Rattle.rules.specs.Basics.{any}
 use Rattle.rules.specs.Due.{Line, claims_of, Share, share_rule}
 
 -- the test holds at 0, 1, .. up to n

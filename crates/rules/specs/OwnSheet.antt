@@ -1,8 +1,8 @@
 -- Our own sheet: "Our own sheets give one contract at a time, each to the unfilled line with the least (fill + 1) per
 -- customer contract, the earliest on a tie."
-use Rattle.std.specs.Prelude.{ℕ, zero, suc, ◌+◌, ◌-◌, ◌*◌, Bool, not, ◌&&◌, ◌||◌}
+use Rattle.std.specs.Prelude.{ℕ, zero, suc, ◌+◌, ◌-◌, ◌*◌, Bool, not, ◌&&◌, ◌||◌, if◌then◌else◌, ◌==◌}
 use mathlib.Core.List.{List, [], ◌∷◌, map, flat_map}
-use Rattle.rules.specs.Basics.{if◌then◌else◌, ◌==◌, ◌at_most◌, all}
+use Rattle.rules.specs.Basics.{◌at_most◌, all}
 use Rattle.rules.specs.Number.{bytes_of_all}
 use Rattle.rules.specs.Journal.{Journal}
 use Rattle.rules.specs.Due.{Line, lines, of_trade, due, Share, unfilled}

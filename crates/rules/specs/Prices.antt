@@ -1,6 +1,6 @@
 -- What stands at a moment, and "Best prices". A moment is the history before it.
-use Rattle.std.specs.Prelude.{ℕ, zero, suc, min, max, Bool, not, ◌&&◌, List, [], ◌∷◌, ◌++◌, map}
-use Rattle.rules.specs.Basics.{if◌then◌else◌, ◌==◌, ◌more_than◌, keep}
+use Rattle.std.specs.Prelude.{ℕ, zero, suc, min, max, Bool, not, ◌&&◌, List, [], ◌∷◌, ◌++◌, map, if◌then◌else◌, ◌==◌}
+use Rattle.rules.specs.Basics.{◌more_than◌, keep}
 use Rattle.rules.specs.Header.{Header}
 use Rattle.rules.specs.Record.{firm, not_firm, rotation, Event, Quote, quote, status, is_quote, is_status}
 use Rattle.rules.specs.History.{History}

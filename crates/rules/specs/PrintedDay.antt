@@ -1,9 +1,9 @@
 -- "The printed day".
-use Rattle.std.specs.Prelude.{ℕ, zero, suc, ◌+◌, ◌/◌, ◌%◌, ◌&&◌, length, get_or}
+use Rattle.std.specs.Prelude.{ℕ, zero, suc, ◌+◌, ◌/◌, ◌%◌, ◌&&◌, length, get_or, if◌then◌else◌, ◌==◌}
 use Prim.Native.Char.{code}
 use Prim.Native.String.{String, [] as []ₛ, ◌∷◌ as ◌∷ₛ◌}
 use mathlib.Core.List.{List, [], ◌∷◌, ◌++◌, flat_map}
-use Rattle.rules.specs.Basics.{if◌then◌else◌, ◌==◌, ◌less_than◌, Answer, refused, ok, bit}
+use Rattle.rules.specs.Basics.{◌less_than◌, Answer, refused, ok, bit}
 use Rattle.rules.specs.Header.{Header}
 use Rattle.rules.specs.Record.{Event, told, quote, trade, order, is_quote, is_trade, is_sent, is_received, is_satisfaction}
 use Rattle.rules.specs.Journal.{History, Records, happened, DayRecords, journal_of, day_records, count}

@@ -1,6 +1,6 @@
 -- "Reasons on a Satisfaction Order, first that holds".
-use Rattle.std.specs.Prelude.{ℕ, ◌+◌, ◌-◌, Bool, not, ◌&&◌, ◌||◌, List, [], length}
-use Rattle.rules.specs.Basics.{if◌then◌else◌, ◌==◌, ◌at_most◌, ◌at_least◌, ◌more_than◌, any, below, Row, ◌when◌, ◌¦◌, first_of}
+use Rattle.std.specs.Prelude.{ℕ, ◌+◌, ◌-◌, Bool, not, ◌&&◌, ◌||◌, List, [], length, if◌then◌else◌, ◌==◌}
+use Rattle.rules.specs.Basics.{◌at_most◌, ◌at_least◌, ◌more_than◌, any, below, Row, ◌when◌, ◌¦◌, first_of}
 use Rattle.rules.specs.Limits.{closing_minutes}
 use Rattle.rules.specs.Header.{Header}
 use Rattle.rules.specs.Record.{complex_trade, buy, sell, Event, Quote, quote, trade, Order, order, response, satisfaction, is_sent}

@@ -1,6 +1,6 @@
 -- The check of a sheet. "Sheet order: the journal's refusal first; 20; then line by line 21, 22, 24; then trade by trade 25, 26."
-use Rattle.std.specs.Prelude.{ℕ, zero, suc, ◌+◌, List, [], ◌∷◌, map, length, get_or}
-use Rattle.rules.specs.Basics.{◌==◌, ◌at_most◌, keep, sum, Answer, refused, ok, ◌>>=◌, Passed, demand}
+use Rattle.std.specs.Prelude.{ℕ, zero, suc, ◌+◌, List, [], ◌∷◌, map, length, get_or, ◌==◌}
+use Rattle.rules.specs.Basics.{◌at_most◌, keep, sum, Answer, refused, ok, ◌>>=◌, Passed, demand}
 use Rattle.rules.specs.Refusals.{not_three_each, does_not_add_up, wrong_reason, above_claim, not_the_due_total, share_rule_broken}
 use Rattle.rules.specs.Number.{Spot, start_of, numbers}
 use Rattle.rules.specs.Record.{is_trade}

@@ -1,6 +1,6 @@
 -- "Verdicts": home quote, sent order, received order, trade, block. Each is given the history before the event.
-use Rattle.std.specs.Prelude.{ℕ, ◌+◌, ◌*◌, min, Bool, false, not, ◌&&◌, ◌||◌, List, [], ◌∷◌}
-use Rattle.rules.specs.Basics.{if◌then◌else◌, ◌==◌, ◌at_most◌, ◌at_least◌, ◌more_than◌, within, keep, ◌when◌, ◌¦◌, first_of}
+use Rattle.std.specs.Prelude.{ℕ, ◌+◌, ◌*◌, min, Bool, false, not, ◌&&◌, ◌||◌, List, [], ◌∷◌, if◌then◌else◌, ◌==◌}
+use Rattle.rules.specs.Basics.{◌at_most◌, ◌at_least◌, ◌more_than◌, within, keep, ◌when◌, ◌¦◌, first_of}
 use Rattle.rules.specs.Header.{Header, automatic, principal}
 use Rattle.rules.specs.Record.{cross_form, other_form, linked, principal_order, buy, Event, Quote, quote, Trade, Order, order, is_received}
 use Rattle.rules.specs.History.{History}

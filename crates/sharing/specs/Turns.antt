@@ -1,6 +1,6 @@
 -- Whose turn it is to get a contract, what the steps of sharing out do to the words, and the shares of our own sheet.
-use Rattle.std.specs.Prelude.{◌≡◌, ◌&&◌, List, map, ℕ, ◌+◌, ◌*◌, ◌<◌, ◌≤◌, take, drop, set}
-use Rattle.rules.specs.Basics.{if◌then◌else◌, ◌less_than◌}
+use Rattle.std.specs.Prelude.{◌≡◌, ◌&&◌, List, map, ℕ, ◌+◌, ◌*◌, ◌<◌, ◌≤◌, take, drop, set, if◌then◌else◌}
+use Rattle.rules.specs.Basics.{◌less_than◌}
 use Rattle.rules.specs.Due.{Line, Share}
 use Rattle.rules.specs.OwnSheet.{give, give_one, empty}
 use Rattle.rules.specs.SheetCheck.{fills_of}

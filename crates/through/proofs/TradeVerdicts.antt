@@ -10,7 +10,8 @@ use mir.Syntax.{w64}
 use lib.Dec.{eqb, leb}
 use lib.ListN.{get_or, length, length-append}
 use borrow.Author.Tests.{eq-eqb, ne_eqb, eqb-true, eqb-false, leb-true, le-leb, lt-leb, not-true, not-false}
-use Rattle.rules.specs.Basics.{◌==◌, first_of, keep}
+use Rattle.std.specs.Prelude.{◌==◌}
+use Rattle.rules.specs.Basics.{first_of, keep}
 use Rattle.rules.specs.Limits.{most_exchanges}
 use Rattle.rules.specs.Record as paper
 use Rattle.rules.specs.Journal.{History}

@@ -1,6 +1,6 @@
 -- Trades: what is promised of every history that the table of quotes holds.
-use Rattle.std.specs.Prelude.{◌≡◌, Bool, List, [], ℕ, ◌≤◌, length}
-use Rattle.rules.specs.Basics.{if◌then◌else◌, ◌==◌, within, ◌when◌, ◌¦◌, first_of}
+use Rattle.std.specs.Prelude.{◌≡◌, Bool, List, [], ℕ, ◌≤◌, length, if◌then◌else◌, ◌==◌}
+use Rattle.rules.specs.Basics.{within, ◌when◌, ◌¦◌, first_of}
 use Rattle.rules.specs.Limits.{most_exchanges}
 use Rattle.rules.specs.Header.{Header}
 use Rattle.rules.specs.Record as paper

@@ -7,7 +7,8 @@ use native.Mathlib.Omega.{arith}
 use native.Mathlib.Numerals.{add-one}
 use lib.ListN.{get_or}
 use lib.Seq.{get_or-take}
-use Rattle.rules.specs.Basics.{◌==◌, ◌more_than◌, any, keep}
+use Rattle.std.specs.Prelude.{◌==◌}
+use Rattle.rules.specs.Basics.{◌more_than◌, any, keep}
 use Rattle.rules.specs.Limits.{most_exchanges}
 use Rattle.rules.specs.Header.{Header, automatic}
 use Rattle.rules.specs.Record.{Trade}

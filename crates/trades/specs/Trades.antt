@@ -1,7 +1,7 @@
 -- What is kept of a trade, so that its later Satisfaction Orders can be judged: "Prices, customer contracts and statuses are
 -- those at the trade." A row of eight words for each trade, and one for each trade and exchange.
-use Rattle.std.specs.Prelude.{◌≡◌, Bool, false, not, ◌&&◌, List, [], ◌∷◌, ℕ, ◌+◌, ◌*◌, ◌<◌, ◌≤◌, min, get_or, length}
-use Rattle.rules.specs.Basics.{if◌then◌else◌, ◌==◌, ◌more_than◌, any, keep, bit}
+use Rattle.std.specs.Prelude.{◌≡◌, Bool, false, not, ◌&&◌, List, [], ◌∷◌, ℕ, ◌+◌, ◌*◌, ◌<◌, ◌≤◌, min, get_or, length, if◌then◌else◌, ◌==◌}
+use Rattle.rules.specs.Basics.{◌more_than◌, any, keep, bit}
 use Rattle.rules.specs.Limits.{most_exchanges, most_trades, last_time}
 use Rattle.rules.specs.Header.{Header}
 use Rattle.rules.specs.Record.{buy, sell, Event, Trade, trade, is_trade, trade_kind}
