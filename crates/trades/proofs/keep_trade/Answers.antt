@@ -1,6 +1,4 @@
-use Rattle.std.proofs.lemmas.Grind.{common_steps}
-use Rattle.std.proofs.Common.{arith}
-use Rattle.trades.proofs.TradeLaws.{trade_laws}
+use Rattle.trades.proofs.TradeLaws.{trade_laws, trade_taken}
 use Rattle.std.proofs.Common.{rules}
 use Rattle.trades.proofs.keep_trade.Goals as goal
 
@@ -8,4 +6,7 @@ pub returns-then-r-ne-TRADE : goal.returns-then-r-ne-TRADE
 returns-then-r-ne-TRADE c = search (trade_laws, rules)
 
 pub returns : goal.returns
-returns c = grind (arith, common_steps, trade_laws)
+returns c =
+    trade_taken _ _ _ _ _ _ _ _ _ _ _ _ _ c.requires.headed c.requires.fits_trades c.if-r-ne-TRADE.false _ _ _ c.index-series.ensures
+    c.keep_snaps.ensures _ c.is_capped.ensures _ _ _ c.bit_of-found.ensures c.bit_of-capped.ensures c.bit_of-begun.ensures
+    c.put_row.ensures
