@@ -38,7 +38,7 @@ awk '
         words = split(line, word, /[^A-Za-z_0-9]+/)
         name = word[2]
         if (line ~ /^extern "C" fn /) { name = word[4]; word[1] = "fn" }
-        if (line ~ /^safe fn /) { name = word[3]; word[1] = "fn" }
+        if (line ~ /^(safe|unsafe) fn /) { name = word[3]; word[1] = "fn" }
         if (line ~ /^const fn /) name = word[3]
         item = word[1] ~ /^(fn|const|enum|struct|type|static)$/
         if (!indent && item) there(name)
