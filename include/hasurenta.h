@@ -1,5 +1,5 @@
-/* The linkage desk's proved functions for C, and for any language that calls C: target/staticlib/libdesk.a, which
- * `rt staticlib desk` writes for x86-64.
+/* The linkage desk's proved functions for C, and for any language that calls C: the archive that
+ * `bench/native-archive desk libdesk.a` makes, for x86-64.
  *
  * Every function answers one number, refusal * 2^32 + place. Refusal 0 means accepted: then the low 32 bits are how many
  * elements of `out` were written, from its start, and the rest of `out` is as it was (0 for a function without `out`). Any
@@ -20,7 +20,7 @@
  * Of a received order (6) document 02 moves the line R that hasurenta_day writes, and nothing else: after a principal order of an
  * exchange that was owed whole, its next ones have no duty up to and including 15,000 ms later, reason 4, and then, up to and
  * including 60,000, answer 2 with the lesser of their size and home's principal size; docs/NUMBERS.md has where neither holds.
- * What each function answers is proved for every input: crates/desk/src/lib.rt has the statement over it.
+ * What each function answers is proved for every input: crates/desk_c/src/lib.rt has the statement over it.
  *
  * A slice is a pointer and a count of elements, and NULL with 0 is an empty one. Nothing is asked of what the slices hold
  * or how long they are. The caller's part: each pointer reaches as many elements as are counted, and `out` overlaps no

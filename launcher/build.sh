@@ -3,11 +3,21 @@
 flags=$here/target/building
 flag='' proving=''
 
-# rt links a program before it has run it, and leaves the stamp once all is well.
-is_built() { [ -r "$here/target/bin/$1" ] && [ -e "$here/target/stamp/$1" ]; }
+program() { echo "$here/crates/$1/out/$1"; }
+
+# rt links only what it has proved. Once the program is whole `rt run` leaves a stamp beside it, and `rt ci` what the program wrote.
+is_built() { [ -x "$(program "$1")" ] && { [ -e "$(program "$1").stamp" ] || [ -e "$here/crates/$1/out/stdout" ]; }; }
+
+# The kit's rt.
+find_rt() {
+    rt=${RATTLE_HOME:+$RATTLE_HOME/bin/rt}
+    [ -n "$rt" ] || rt=$(command -v rt) || cannot 'the Rattle kit is not found: put rt on PATH or set RATTLE_HOME'
+    [ -x "$rt" ] || cannot "$rt: not there, and the Rattle kit has it"
+}
 
 build() {
     ! is_built "$1" || return 0
+    find_rt
     take_turn
     is_built "$1" || prove "$1"
     rm -f "$flag"
@@ -63,45 +73,51 @@ take_turn() {
 
 # ---- the build
 
-# How many crates rt reports: those of crates.txt that a program rests on, itself too.
-count_crates() {
+# The crates of crates.txt that a program rests on, itself too.
+crates_under() {
     awk -v program="$1" '
-        function reached(name,    dep, i, n, sum) {
-            if (!(name in uses) || seen[name]++) return 0
+        function reach(name,    dep, i, n) {
+            if (!(name in uses) || seen[name]++) return
+            print name
             n = split(uses[name], dep, " ")
-            sum = 1
-            for (i = 1; i <= n; i++) sum += reached(dep[i])
-            return sum
+            for (i = 1; i <= n; i++) reach(dep[i])
         }
         { sub(/#.*/, ""); colon = index($0, ":") }
-        colon { name = substr($0, 1, colon - 1); gsub(/[ \t]/, "", name); uses[name] = substr($0, colon + 1) }
-        END { print reached(program) }' "$here/crates.txt"
+        # before the colon the name may have words behind it
+        colon && split(substr($0, 1, colon - 1), head, " ") { uses[head[1]] = substr($0, colon + 1) }
+        END { reach(program) }' "$here/crates.txt"
 }
 
 prove() {
-    # rt builds nothing that it has a stamp for
-    rm -f "$here/target/stamp/$1"
+    out=$here/crates/$1/out
+    # of an earlier build, whose program is gone
+    rm -f "$out/$1.stamp" "$out/stdout"
     began=$(date +%s)
-    crates=$(count_crates "$1") || cannot 'crates.txt: cannot be read'
-    say_apart "proving and building $1, once: $crates crates, which can take some minutes"
+    under=$(crates_under "$1") || cannot 'crates.txt: cannot be read'
+    crates=$(echo "$under" | wc -w)
+    say_apart "proving and building $1, once: $((crates)) crates, which can take some minutes"
     apart=$(command -v setsid)
     proving=yes
-    (cd "$here" && exec ${apart:+"$apart"} "$rt" check "$1") </dev/null >"$work/rt" 2>&1 &
+    # it runs the program as well, whose own status says nothing here
+    (cd "$here/crates/$1" && exec ${apart:+"$apart"} "$rt" run) </dev/null >"$work/rt" 2>&1 &
     echo "$!" >"$flag"
     watch "$1"
     wait "$!"
-    ended=$?
     proving=''
-    [ "$ended" -eq 0 ] && is_built "$1" || {
+    is_built "$1" || {
         cat "$work/rt" >&2
-        rm -f "$here/target/bin/$1"
+        rm -f "$(program "$1")"
         cannot "$1 could not be built"
     }
 }
 
+# rt leaves a stamp beside each library and each program that it has proved and built.
 progress() { # NAME NOW
-    proved=$(grep -c '^rt: [A-Za-z0-9_]* proved (' "$work/rt")
-    echo "building $1: $proved of $crates crates proved, $(($2 - began)) s so far"
+    proved=0
+    for crate in $under; do
+        [ ! -e "$here/crates/$crate/out/rlib/stamp" ] && [ ! -e "$here/crates/$crate/out/$crate.stamp" ] || proved=$((proved + 1))
+    done
+    echo "building $1: $proved of $((crates)) crates proved, $(($2 - began)) s so far"
 }
 
 # On a terminal a line that is written anew each second, elsewhere one now and then.

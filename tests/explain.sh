@@ -6,6 +6,7 @@
 # orders, tests/explain/received.day, a day without a Satisfaction Order: alone, and the same beside its empty sheet.
 set -u
 cd "$(dirname "$0")/.." || exit 1
+[ "$(uname -m)" = x86_64 ] || { echo 'left out: tests/explain.sh: the programs are for x86-64'; exit 77; }
 work=$(mktemp -d) || exit 1
 trap 'rm -rf "$work"' EXIT
 tried=0 wrong=0

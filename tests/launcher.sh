@@ -3,6 +3,7 @@
 # it says on standard error and its status are held to what they must be. Builds are tried on a copy with an rt of our own.
 set -u
 cd "$(dirname "$0")/.." || exit 1
+[ "$(uname -m)" = x86_64 ] || { echo 'left out: tests/launcher.sh: the programs are for x86-64'; exit 77; }
 work=$(mktemp -d) || exit 1
 trap 'rm -rf "$work"' EXIT
 tried=0 wrong=0 what=''
@@ -410,35 +411,38 @@ if [ -c /dev/full ]; then
     said 'standard output: No space left on device'
 fi
 
+# A program that is built needs no kit.
 what='hasurenta day, with no kit'
 tried=$((tried + 1))
-(RATTLE_HOME=$work/nothing; export RATTLE_HOME; ./hasurenta day "$d") >"$work/out" 2>"$work/err"
-[ $? -eq 2 ] || fail 'status not 2'
-named "$work/nothing"
-formed
+(RATTLE_HOME=$work/nothing; export RATTLE_HOME; ./hasurenta day "$d") >"$work/out" 2>"$work/err" || fail 'status not 0'
+said_nothing
+wrote_file examples/day-d.list
 
-# ---- builds, on a copy with an rt of our own: it says when it is run twice at once, takes a while, and copies the program that is built
+# ---- builds, on a copy with an rt of our own: it says when it is run twice at once, takes a while, and copies the program that is
+# built. It ends with 1, as rt does where the program that it runs does so.
 bare=$work/bare
-if [ -n "${RATTLE_HOME:-}" ]; then kits_rt=$RATTLE_HOME/bin/rt; else kits_rt=$(command -v rt); fi
 new_copy() {
     rm -rf "$bare"
     mkdir -p "$bare/bin"
+    for name in day totals explain encode; do mkdir -p "$bare/crates/$name"; done
     cp -R hasurenta launcher "$bare/"
-    printf 'rules:\nrows: rules # a row\nother: rules\nday: rows libc\ntotals: rows\nexplain: rows\n' >"$bare/crates.txt"
+    printf 'rules:\nrows: rules # a row\nother staticlib: rules\nday: rows libc\ntotals: rows\nexplain opt_level=1: rows\n' >"$bare/crates.txt"
     cat >"$bare/bin/rt" <<END_RT
 #!/bin/sh
-[ "\$1" != doc ] || exec "$kits_rt" doc
-mkdir busy 2>/dev/null || echo "\$2" >>twice
-echo "\$2" >>ran
-echo 'rt: rules proved (1 s)'
-echo 'rt: rows proved (unchanged since it was last proved)'
+[ "\$*" = run ] || { echo "not run: \$*"; exit 2; }
+name=\$(basename "\$PWD")
+cd ../..
+mkdir busy 2>/dev/null || echo "\$name" >>twice
+echo "\$name" >>ran
+mkdir -p crates/rules/out/rlib crates/rows/out/rlib "crates/\$name/out"
+: >crates/rules/out/rlib/stamp
+: >crates/rows/out/rlib/stamp
 . ./turn
-mkdir -p target/bin target/stamp
-cp "$PWD/target/bin/\$2" target/bin/
+cp "$PWD/crates/\$name/out/\$name" "crates/\$name/out/"
 sleep 1
-: >"target/stamp/\$2"
+: >"crates/\$name/out/\$name.stamp"
 rmdir busy
-echo "rt: \$2 proved (1 s)"
+exit 1
 END_RT
     chmod +x "$bare/bin/rt"
     echo 'sleep 1' >"$bare/turn"
@@ -479,8 +483,25 @@ from_copy one day "$d"; ended one 0; wrote_file examples/day-d.list; said "$star
 from_copy one day "$d"; ended one 0; wrote_file examples/day-d.list; said_nothing; ran day
 
 what='a program that is linked and has no stamp'
-rm "$bare/target/stamp/day"
+rm "$bare/crates/day/out/day.stamp"
 from_copy one day "$d"; ended one 0; wrote_file examples/day-d.list; ran 'day day'
+
+what='a program that rt ci has run'
+mv "$bare/crates/day/out/day.stamp" "$bare/crates/day/out/stdout"
+from_copy one day "$d"; ended one 0; wrote_file examples/day-d.list; said_nothing; ran 'day day'
+
+what='a program that is gone, where rt ci had run it'
+rm "$bare/crates/day/out/day"
+from_copy one day "$d"; ended one 0; wrote_file examples/day-d.list; said "$starting"; ran 'day day day'
+[ ! -e "$bare/crates/day/out/stdout" ] || fail 'left what the earlier program wrote'
+
+what='a build with no kit'
+new_copy
+tried=$((tried + 1))
+(RATTLE_HOME=$work/nothing; export RATTLE_HOME; "$bare/hasurenta" day "$d") >"$work/out" 2>"$work/err"
+[ $? -eq 2 ] || fail 'status not 2'
+named "$work/nothing"
+formed
 
 what='five starts at once'
 new_copy
@@ -615,9 +636,9 @@ fi
 
 what='a build that fails'
 new_copy
-echo 'echo "no proof of $2"; exit 1' >"$bare/turn"
+echo 'echo "no proof of $name"; exit 1' >"$bare/turn"
 from_copy one day "$d"; ended one 2; named 'no proof of day'; hinted 'day could not be built'; no_flag
-[ ! -e "$bare/target/bin/day" ] || fail 'left a program'
+[ ! -e "$bare/crates/day/out/day" ] || fail 'left a program'
 
 what='a launcher without its folder'
 new_copy

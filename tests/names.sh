@@ -9,7 +9,7 @@
 set -eu
 cd "$(dirname "$0")/.."
 pages='README.md docs/*.md */README.md tests/vectors/README.md'
-kit=${RATTLE_HOME:-$(dirname "$(dirname "$(rt doc)")")}
+kit=$(dirname "$(rt doc)")
 found=$(mktemp -d)
 trap 'rm -rf "$found"' EXIT
 LC_ALL=C
@@ -38,6 +38,7 @@ awk '
         words = split(line, word, /[^A-Za-z_0-9]+/)
         name = word[2]
         if (line ~ /^extern "C" fn /) { name = word[4]; word[1] = "fn" }
+        if (line ~ /^(safe|unsafe) fn /) { name = word[3]; word[1] = "fn" }
         if (line ~ /^const fn /) name = word[3]
         item = word[1] ~ /^(fn|const|enum|struct|type|static)$/
         if (!indent && item) there(name)
@@ -46,11 +47,11 @@ awk '
             sub(/[^A-Za-z_0-9].*/, "", owner)
             kind = word[1]
         }
-        if (!indent && /^extern "C" \{$/) owner = kind = "extern"
+        if (!indent && /^(unsafe )?extern "C" \{$/) owner = kind = "extern"
         if (indent && kind == "extern" && item) there(name)
         if (indent && kind == "impl" && item) there(owner "::" name)
         if (indent && kind == "enum" && line ~ /^[A-Z]/) there(owner "::" word[1])
-    }' crates/*/src/*.rt "$kit"/libs/*/src/*.rt >"$found/there"
+    }' crates/*/src/*.rt "$kit"/rattle/*/src/*.rt >"$found/there"
 
 # Every definition and law. Its line begins with its name, after words that say how it may be used.
 awk '
@@ -77,7 +78,7 @@ awk '
             if (word[i] ~ /^[^ ]+\.md$/) named("path", word[i])
             else if (word[i] ~ /^([a-z_0-9]+\/)*[A-Z][A-Za-z0-9]*\.[^.]/ && word[i] !~ /^[A-Z]+\.|\.antt$/) named("definition", word[i])
             else if (word[i] ~ /^[a-z0-9.-][A-Za-z0-9_.-]*\/[A-Za-z0-9_.\/-]*$/) named("path", word[i])
-            else if (word[i] ~ /^hasurenta_/) named("item", "desk::" word[i])
+            else if (word[i] ~ /^hasurenta_/) named("item", "desk_c::" word[i])
         }
     }
     /^```/ { next }

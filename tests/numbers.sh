@@ -32,7 +32,7 @@ grep -v '^#' "$table" | sort >"$found/words"
 rows Refusals | sed 's/^| \([^|]* | [^|]* | [^|]*\) | [^|]* |$/\1/' | sort >"$found/page"
 same "the launcher's words, and those of the page" "$found/words" "$found/page"
 
-{ awk '/^reasonRows h k =/ { on = 1 } on' "$specs/Reasons.antt" | grep -o '[0-9][0-9]* when ' | tr -d ' when'; echo 0; } | sort >"$found/given"
+{ awk '/^reason_rows h k =/ { on = 1 } on' "$specs/Reasons.antt" | grep -o '[0-9][0-9]* when ' | tr -d ' when'; echo 0; } | sort >"$found/given"
 rows Reasons | first_column >"$found/told"
 same 'reasons defined, and those of the page' "$found/given" "$found/told"
 awk "$(sed -n 's/^ *\(function is_reason\)/\1/p' launcher/hints.sh)
@@ -45,19 +45,19 @@ while read -r rule; do
 done <"$found/rules"
 
 {
-    awk '/^noDuty h past o =/ { on = 1 } /^$/ { on = 0 } on' "$specs/Verdicts.antt" | grep -o '[0-9][0-9]* when ' | tr -d ' when'
-    sed -n 's/.*verdict executeNone 0 \([0-9][0-9]*\)$/\1/p' "$specs/Verdicts.antt"
+    awk '/^no_duty h past o =/ { on = 1 } /^$/ { on = 0 } on' "$specs/Verdicts.antt" | grep -o '[0-9][0-9]* when ' | tr -d ' when'
+    sed -n 's/.*verdict execute_none 0 \([0-9][0-9]*\)$/\1/p' "$specs/Verdicts.antt"
 } | sort >"$found/duty"
 sed -n 's/^R, why there is no duty, //p' "$page" | grep -o '[:;] [0-9][0-9]* ' | tr -d ':; ' | sort >"$found/why"
 same 'reasons of a line R, and those of the page' "$found/duty" "$found/why"
 awk '/^Why there is no duty/ { on = 1 } /^$/ { on = 0 } on' launcher/help/day | tr '\n' ' ' | grep -o '[:,] *[0-9][0-9]* ' | tr -d ':, ' | sort >"$found/helped"
 same 'reasons of a line R, and those of the help' "$found/duty" "$found/helped"
 
-grep -o 'oneLine [^"]*"[A-Z]"' "$specs/PrintedDay.antt" | sed 's/.*"\(.\)"/\1/' | sort >"$found/printed"
+grep -o 'one_line [^"]*"[A-Z]"' "$specs/PrintedDay.antt" | sed 's/.*"\(.\)"/\1/' | sort >"$found/printed"
 rows 'The lines of a day' | first_column >"$found/letters"
 same 'letters that are printed, and those of the page' "$found/printed" "$found/letters"
 
-sed -n 's/^[a-z]*Kind = //p' "$specs/Record.antt" | sort >"$found/kinds"
+sed -n 's/^[a-z]*_kind = //p' "$specs/Record.antt" | sort >"$found/kinds"
 rows 'Numbers in a record' | sed -n 's/^| kind | //p' | grep -o '[0-9][0-9]*' | sort >"$found/named"
 same 'kinds defined, and those of the page' "$found/kinds" "$found/named"
 

@@ -5,6 +5,7 @@
 # to the same.
 set -u
 cd "$(dirname "$0")/.." || exit 1
+[ "$(uname -m)" = x86_64 ] || { echo 'left out: tests/text.sh: the programs are for x86-64'; exit 77; }
 work=$(mktemp -d) || exit 1
 trap 'rm -rf "$work"' EXIT
 tried=0 wrong=0 what=''

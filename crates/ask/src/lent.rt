@@ -18,40 +18,32 @@ impl Lent {
 }
 
 pub fn lend(out: &mut [u8]) {
-    let mut i: usize = 0;
-    while i < out.len() {
-        out[i] = Lent::BYTE;
-        i += 1;
+    for byte in out.iter_mut() {
+        *byte = Lent::BYTE;
     }
 }
 
 // Whether every lent byte from `at` on is as it was.
 pub fn kept(out: &[u8], at: usize) -> bool {
-    let mut i = at;
-    while i < out.len() {
+    for i in at..out.len() {
         if out[i] != Lent::BYTE {
             return false;
         }
-        i += 1;
     }
     true
 }
 
 // Lent words as bytes, lowest first.
 pub fn put_words(words: &[u32; Lent::WORDS], out: &mut [u8]) {
-    let mut i: usize = 0;
-    while i < Lent::WORDS {
+    for i in 0..Lent::WORDS {
         put_word(out, 4 * i, rows::wide(words[i]));
-        i += 1;
     }
 }
 
 // The same of words of eight bytes.
 pub fn put_longs(longs: &[u64; Lent::LONGS], out: &mut [u8]) {
-    let mut i: usize = 0;
-    while i < Lent::LONGS {
+    for i in 0..Lent::LONGS {
         put_word(out, 8 * i, longs[i] % 4294967296);
         put_word(out, 8 * i + 4, longs[i] / 4294967296);
-        i += 1;
     }
 }

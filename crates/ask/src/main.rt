@@ -4,10 +4,9 @@
 ghost use Rattle.std.specs.Prelude.{◌<◌, ◌≤◌};
 
 use desk::Handed;
-use feed::Input;
 use lent::Lent;
-use libc::STDIN_FILENO;
 use rows::Code;
+use std::io::Read;
 
 mod lent;
 mod words;
@@ -75,12 +74,12 @@ fn least(a: u64, b: usize) -> usize
     if a < b as u64 { a as usize } else { b }
 }
 
-fn send_head(head: &[u8; Reply::HEAD]) -> bool {
-    feed::send(head, Reply::HEAD)
+fn send_head(rt: &(impl Print + Eprint), head: &[u8; Reply::HEAD]) -> bool {
+    feed::send(rt, head, Reply::HEAD)
 }
 
 // Sends what the entry answered, and the bytes that it says it wrote.
-fn say(coded: u64, out: &[u8]) -> bool {
+fn say(rt: &(impl Print + Eprint), coded: u64, out: &[u8]) -> bool {
     let answer = Coded::of(coded);
     let mut place = answer.low;
     let mut n: usize = 0;
@@ -93,10 +92,10 @@ fn say(coded: u64, out: &[u8]) -> bool {
     words::put_word(&mut head, 4, place);
     head[8] = lent::kept(out, n) as u8;
     words::put_word(&mut head, 9, n as u64);
-    if !send_head(&head) {
+    if !send_head(rt, &head) {
         return false;
     }
-    feed::send(out, n)
+    feed::send(rt, out, n)
 }
 
 // An entry's count of words, of eight bytes or of four, as a count of bytes.
@@ -112,54 +111,74 @@ fn put_totals(a: &[u8], sums: &mut [u64; Lent::LONGS]) -> u64 {
     desk::hasurenta_totals(a, sums)
 }
 
-fn totals(a: &[u8]) -> bool {
+fn totals(rt: &(impl Print + Eprint), a: &[u8]) -> bool {
     let mut sums = [Lent::LONG; Lent::LONGS];
     let coded = put_totals(a, &mut sums);
     let mut out = [0u8; 8 * Lent::LONGS];
     lent::put_longs(&sums, &mut out);
-    say(in_bytes(coded, true), &out)
+    say(rt, in_bytes(coded, true), &out)
 }
 
 fn put_record(numbers: &[u32], b: &[u8], record: &mut [u32; Lent::WORDS]) -> u64 {
     desk::hasurenta_read_record(numbers, b, record)
 }
 
-fn read_record(numbers: &[u32], b: &[u8]) -> bool {
+fn read_record(rt: &(impl Print + Eprint), numbers: &[u32], b: &[u8]) -> bool {
     let mut record = [Lent::WORD; Lent::WORDS];
     let coded = put_record(numbers, b, &mut record);
     let mut out = [0u8; 4 * Lent::WORDS];
     lent::put_words(&record, &mut out);
-    say(in_bytes(coded, false), &out)
+    say(rt, in_bytes(coded, false), &out)
 }
 
 // The entries that are given numbers. They refuse an A that is no row of words as they refuse no numbers.
-fn numbered(op: u8, a: &[u8], b: &[u8], out: &mut [u8]) -> bool {
+fn numbered(rt: &(impl Print + Eprint), op: u8, a: &[u8], b: &[u8], out: &mut [u8]) -> bool {
     let mut row = [0u32; Handed::RECORD_MOST];
     let n = words::numbers_of(a, &mut row);
-    of_row(op, &row, n, b, out)
+    of_row(rt, op, &row, n, b, out)
 }
 
-fn of_row(op: u8, row: &[u32; Handed::RECORD_MOST], n: usize, b: &[u8], out: &mut [u8]) -> bool {
-    first_numbers(op, row, n, b, out)
+fn of_row(
+    rt: &(impl Print + Eprint),
+    op: u8,
+    row: &[u32; Handed::RECORD_MOST],
+    n: usize,
+    b: &[u8],
+    out: &mut [u8],
+) -> bool {
+    first_numbers(rt, op, row, n, b, out)
 }
 
-fn first_numbers(op: u8, row: &[u32], n: usize, b: &[u8], out: &mut [u8]) -> bool {
+fn first_numbers(
+    rt: &(impl Print + Eprint),
+    op: u8,
+    row: &[u32],
+    n: usize,
+    b: &[u8],
+    out: &mut [u8],
+) -> bool {
     if row.len() < n {
         return false;
     }
-    with_numbers(op, &row[..n], b, out)
+    with_numbers(rt, op, &row[..n], b, out)
 }
 
-fn with_numbers(op: u8, numbers: &[u32], b: &[u8], out: &mut [u8]) -> bool {
+fn with_numbers(
+    rt: &(impl Print + Eprint),
+    op: u8,
+    numbers: &[u32],
+    b: &[u8],
+    out: &mut [u8],
+) -> bool {
     if op == Question::READ_RECORD {
-        return read_record(numbers, b);
+        return read_record(rt, numbers, b);
     }
     if op == Question::WRITE_HEADER {
         let coded = desk::hasurenta_write_header(numbers, out);
-        return say(coded, out);
+        return say(rt, coded, out);
     }
     let coded = desk::hasurenta_write_record(numbers, out);
-    say(coded, out)
+    say(rt, coded, out)
 }
 
 // The entries that are given a journal and answer in bytes.
@@ -174,38 +193,47 @@ fn entry(op: u8, a: &[u8], b: &[u8], out: &mut [u8]) -> u64 {
     }
 }
 
-fn answer(op: u8, a: &[u8], b: &[u8], out: &mut [u8]) -> bool {
+fn answer(rt: &(impl Print + Eprint), op: u8, a: &[u8], b: &[u8], out: &mut [u8]) -> bool {
     lent::lend(out);
     match op {
-        Question::TOTALS => totals(a),
-        Question::WRITE_HEADER..=Question::READ_RECORD => numbered(op, a, b, out),
+        Question::TOTALS => totals(rt, a),
+        Question::WRITE_HEADER..=Question::READ_RECORD => numbered(rt, op, a, b, out),
         _ => {
             let coded = entry(op, a, b, out);
-            say(coded, out)
+            say(rt, coded, out)
         }
     }
 }
 
 // Fills the first n bytes of buf, and says whether it could.
-fn filled(buf: &mut [u8], n: usize) -> bool {
+fn filled<R: Read>(reader: &mut R, buf: &mut [u8], n: usize) -> bool {
     if buf.len() < n {
         return false;
     }
-    let Input::Taken(got) = feed::take(STDIN_FILENO, &mut buf[..n]) else {
-        return false;
-    };
-    got == n
+    match feed::take(reader, &mut buf[..n]) {
+        Ok(got) => got == n,
+        Err(_) => false,
+    }
 }
 
-fn filled_head(head: &mut [u8; Question::HEAD]) -> bool {
-    filled(head, Question::HEAD)
+fn filled_head<R: Read>(reader: &mut R, head: &mut [u8; Question::HEAD]) -> bool {
+    filled(reader, head, Question::HEAD)
 }
 
 fn size_at(head: &[u8; Question::HEAD], at: usize) -> usize {
     words::word_at(head, at) as usize
 }
 
-fn asked(op: u8, a: &[u8], na: usize, b: &[u8], nb: usize, out: &mut [u8], cap: usize) -> bool {
+fn asked(
+    rt: &(impl Print + Eprint),
+    op: u8,
+    a: &[u8],
+    na: usize,
+    b: &[u8],
+    nb: usize,
+    out: &mut [u8],
+    cap: usize,
+) -> bool {
     if a.len() < na {
         return false;
     }
@@ -215,38 +243,42 @@ fn asked(op: u8, a: &[u8], na: usize, b: &[u8], nb: usize, out: &mut [u8], cap: 
     if out.len() < cap {
         return false;
     }
-    answer(op, &a[..na], &b[..nb], &mut out[..cap])
+    answer(rt, op, &a[..na], &b[..nb], &mut out[..cap])
 }
 
 // Reads one question whole and answers it; false where the run ends.
-fn turn(
+fn turn<R: Read>(
+    rt: &(impl Print + Eprint),
+    reader: &mut R,
     a: &mut [u8; Question::MOST],
     b: &mut [u8; Question::MOST],
     out: &mut [u8; Question::MOST],
 ) -> bool {
     let mut head = [0u8; Question::HEAD];
-    if !filled_head(&mut head) {
+    if !filled_head(reader, &mut head) {
         return false;
     }
     let cap = size_at(&head, 1);
     let na = size_at(&head, 5);
     let nb = size_at(&head, 9);
-    if !filled(a, na) {
+    if !filled(reader, a, na) {
         return false;
     }
-    if !filled(b, nb) {
+    if !filled(reader, b, nb) {
         return false;
     }
-    asked(head[0], a, na, b, nb, out, cap)
+    asked(rt, head[0], a, na, b, nb, out, cap)
 }
 
-// Nothing says that the input ends, so the turns are counted down from a number that no run uses up.
-fn main() {
+// Nothing says that the input ends, so the turns are counted up to a number that no run uses up.
+fn main(rt: HostRuntime) {
     let mut a = [0u8; Question::MOST];
     let mut b = [0u8; Question::MOST];
     let mut out = [0u8; Question::MOST];
-    let mut turns = u64::MAX;
-    while turns > 0 && turn(&mut a, &mut b, &mut out) {
-        turns -= 1;
+    let mut reader = rt.stdin();
+    for _ in 0..u64::MAX {
+        if !turn(&rt, &mut reader, &mut a, &mut b, &mut out) {
+            return;
+        }
     }
 }

@@ -42,10 +42,9 @@ pub fn numbers_of(a: &[u8], numbers: &mut [u32; Handed::RECORD_MOST]) -> usize {
     if a.len() > 4 * Handed::RECORD_MOST {
         return 0;
     }
-    let mut i: usize = 0;
-    while i < a.len() / 4 {
+    let count = a.len() / 4;
+    for i in 0..count {
         numbers[i] = word_at(a, 4 * i);
-        i += 1;
     }
-    i
+    count
 }

@@ -2,29 +2,41 @@
 #![tactic(auto)]
 
 use feed::{Input, Room};
-use libc::{STDERR_FILENO, STDOUT_FILENO};
 use said::Checked;
+use std::env;
 
-fn check(journal: &[u8], sheet: &[u8]) {
+// Prints the check's answer.
+fn check(rt: &HostRuntime, journal: &[u8], sheet: &[u8]) {
     if let Checked::Refused { no, place } = answers::check_sheet(journal, sheet) {
-        feed::refused(STDOUT_FILENO, no, place);
+        feed::refused(&mut rt.stdout(), no, place);
         return;
     }
-    io::write_all(STDOUT_FILENO, b"accepted\n");
+    feed::print(rt, "accepted\n");
 }
 
-fn main() {
-    if os::arg_count() != 3 {
-        io::write_all(STDERR_FILENO, b"usage: check_sheet JOURNAL SHEET\n");
-        return;
-    }
+// Checks the sheet of one name against the journal of another.
+fn check_files(rt: &HostRuntime, journal_name: &str, sheet_name: &str) {
     let mut journal = [0u8; Room::JOURNAL_INPUT];
     let mut sheet = [0u8; Room::SHEET_INPUT];
-    let Input::Taken(n) = feed::file(1, &mut journal) else {
+    let Input::Taken(n) = feed::file(rt, journal_name, &mut journal) else {
         return;
     };
-    let Input::Taken(k) = feed::file(2, &mut sheet) else {
+    let Input::Taken(k) = feed::file(rt, sheet_name, &mut sheet) else {
         return;
     };
-    check(&journal[..n], &sheet[..k]);
+    check(rt, &journal[..n], &sheet[..k]);
+}
+
+fn main(rt: HostRuntime) {
+    match env::args(&rt) {
+        Ok(mut words) => match (words.next(), words.next(), words.next(), words.next()) {
+            (_, Some(journal), Some(sheet), None) => {
+                check_files(&rt, journal.as_str(), sheet.as_str());
+            }
+            _ => {
+                let _ = eprintln!(rt; "usage: check_sheet JOURNAL SHEET");
+            }
+        },
+        Err(error) => feed::failed(&rt, "argument", error),
+    }
 }

@@ -3,7 +3,6 @@
 
 use feed::{Input, Room};
 use journal::Rewritten;
-use libc::STDOUT_FILENO;
 
 #[derive(Drop)]
 struct List;
@@ -13,12 +12,12 @@ impl List {
     const ROOM: usize = 262144;
 }
 
-fn main() {
+fn main(rt: HostRuntime) {
     let mut journal = [0u8; Room::JOURNAL_INPUT];
     let mut list = [0u8; List::ROOM];
-    let Input::Taken(n) = feed::standard_input(&mut journal) else {
+    let Input::Taken(n) = feed::standard_input(&rt, &mut journal) else {
         return;
     };
     let answered: Rewritten = answers::print_day(&journal[..n], &mut list);
-    feed::answer(answered, &list, STDOUT_FILENO);
+    feed::answer(&rt, answered, &list, &mut rt.stdout());
 }

@@ -1,4 +1,4 @@
-// The desk's functions for other languages: slices in, lent memory, one number out. include/hasurenta.h declares them.
+// The desk's functions for other languages: slices in, lent memory, one number out. desk_c exports them, and include/hasurenta.h declares them.
 #![tactic(auto)]
 
 ghost use Rattle.std.specs.Prelude.{◌≡◌, [], ◌∷◌, ◌+◌, ◌%◌, ◌≤◌, length, take};
@@ -33,8 +33,7 @@ fn coded(answer: Rewritten) -> u64
     }
 }
 
-#[unsafe(no_mangle)]
-pub extern "C" fn hasurenta_journal(j: &[u8]) -> u64
+pub fn hasurenta_journal(j: &[u8]) -> u64
     ensures { result ≡ code_of (unwritten (journal j.now)) }
 {
     match journal::check(j) {
@@ -57,8 +56,7 @@ fn put_totals(out: &mut [u64], sent: u64, filled: u64, cancelled: u64, pending: 
     Handed::TOTALS as u64
 }
 
-#[unsafe(no_mangle)]
-pub extern "C" fn hasurenta_totals(j: &[u8], out: &mut [u64]) -> u64
+pub fn hasurenta_totals(j: &[u8], out: &mut [u64]) -> u64
     ensures { Gives (write_totals j.now (length out.old)) out.old result out.new }
 {
     match journal::totals(j) {
@@ -72,22 +70,19 @@ pub extern "C" fn hasurenta_totals(j: &[u8], out: &mut [u64]) -> u64
     }
 }
 
-#[unsafe(no_mangle)]
-pub extern "C" fn hasurenta_day(j: &[u8], out: &mut [u8]) -> u64
+pub fn hasurenta_day(j: &[u8], out: &mut [u8]) -> u64
     ensures { Gives (write_day j.now (length out.old)) out.old result out.new }
 {
     coded(answers::print_day(j, out))
 }
 
-#[unsafe(no_mangle)]
-pub extern "C" fn hasurenta_sheet(j: &[u8], out: &mut [u8]) -> u64
+pub fn hasurenta_sheet(j: &[u8], out: &mut [u8]) -> u64
     ensures { Gives (write_sheet j.now (length out.old)) out.old result out.new }
 {
     coded(answers::write_sheet(j, out))
 }
 
-#[unsafe(no_mangle)]
-pub extern "C" fn hasurenta_check(j: &[u8], sheet: &[u8]) -> u64
+pub fn hasurenta_check(j: &[u8], sheet: &[u8]) -> u64
     ensures { result ≡ code_of (unwritten (check_sheet j.now sheet.now)) }
 {
     match answers::check_sheet(j, sheet) {
@@ -96,8 +91,7 @@ pub extern "C" fn hasurenta_check(j: &[u8], sheet: &[u8]) -> u64
     }
 }
 
-#[unsafe(no_mangle)]
-pub extern "C" fn hasurenta_rewrite(j: &[u8], out: &mut [u8]) -> u64
+pub fn hasurenta_rewrite(j: &[u8], out: &mut [u8]) -> u64
     ensures { Gives (rewrite_journal j.now (length out.old)) out.old result out.new }
 {
     coded(journal::rewrite(j, out))
@@ -150,8 +144,7 @@ fn written(answer: Written) -> u64
     }
 }
 
-#[unsafe(no_mangle)]
-pub extern "C" fn hasurenta_write_header(numbers: &[u32], out: &mut [u8]) -> u64
+pub fn hasurenta_write_header(numbers: &[u32], out: &mut [u8]) -> u64
     ensures { Gives (write_header_from numbers.now (length out.old)) out.old result out.new }
 {
     if numbers.len() != Handed::HEADER {
@@ -161,8 +154,7 @@ pub extern "C" fn hasurenta_write_header(numbers: &[u32], out: &mut [u8]) -> u64
     written(header::write_header(out, head))
 }
 
-#[unsafe(no_mangle)]
-pub extern "C" fn hasurenta_write_record(numbers: &[u32], out: &mut [u8]) -> u64
+pub fn hasurenta_write_record(numbers: &[u32], out: &mut [u8]) -> u64
     ensures { Gives (write_record_from numbers.now (length out.old)) out.old result out.new }
 {
     if numbers.len() < Handed::RECORD_LEAST {
@@ -222,8 +214,7 @@ fn put_record(
     (Handed::WORDS_FRONT + count) as u64 % Code::UNIT
 }
 
-#[unsafe(no_mangle)]
-pub extern "C" fn hasurenta_read_record(numbers: &[u32], bytes: &[u8], out: &mut [u32]) -> u64
+pub fn hasurenta_read_record(numbers: &[u32], bytes: &[u8], out: &mut [u32]) -> u64
     ensures { Gives (read_record_from numbers.now bytes.now (length out.old)) out.old result out.new }
 {
     if numbers.len() != Handed::READING {

@@ -2,6 +2,7 @@
 ghost use Rattle.std.specs.Prelude.{◌≤◌};
 
 use feed::Input;
+use std::io;
 
 // The number of the line in the text, or the end of the input, or a read that failed.
 #[derive(Clone, Copy)]
@@ -52,27 +53,26 @@ fn with_digit(value: u32, b: u8) -> u32 {
 }
 
 fn next_digit(text: &[u8], at: usize) -> usize {
-    let mut i = at;
-    while i < text.len() {
+    for i in at..text.len() {
         if is_digit(text[i]) {
             return i;
         }
-        i += 1;
     }
-    i
+    text.len()
 }
 
 fn digits(text: &[u8], at: usize) -> Found {
     let mut value: u32 = 0;
-    let mut i = at;
-    while i < text.len() {
+    for i in at..text.len() {
         if !is_digit(text[i]) {
             return Found { value, next: i };
         }
         value = with_digit(value, text[i]);
-        i += 1;
     }
-    Found { value, next: i }
+    Found {
+        value,
+        next: text.len(),
+    }
 }
 
 // The next number; where there is none, 0.
@@ -84,19 +84,17 @@ fn number(text: &[u8], at: usize) -> Found {
 fn numbers(text: &[u8], row: &mut [u32]) -> Line {
     let line = number(text, 0);
     let mut next = line.next;
-    let mut i: usize = 0;
-    while i < row.len() {
+    for cell in row.iter_mut() {
         let found = number(text, next);
-        row[i] = found.value;
+        *cell = found.value;
         next = found.next;
-        i += 1;
     }
     Line::Read(line.value)
 }
 
-pub fn read(row: &mut [u32]) -> Line {
+pub fn read(rt: &(impl io::Input + Eprint), row: &mut [u32]) -> Line {
     let mut text = [0u8; Line::BYTES];
-    let Input::Taken(n) = feed::standard_input(&mut text) else {
+    let Input::Taken(n) = feed::standard_input(rt, &mut text) else {
         return Line::Failed;
     };
     if n == 0 {

@@ -13,10 +13,11 @@ use claims::Line;
 use counted::{SatisfactionOrder, Trade};
 use feed::{Input, Room};
 use journal::Rewritten;
-use libc::{STDERR_FILENO, STDOUT_FILENO};
 use list::Row;
 use reasons::Reason;
 use said::{Checked, Said};
+use std::io::{BufWriter, Write};
+use std::{env, io};
 use survey::Surveyed;
 use trades::{Shown, Trades};
 
@@ -28,8 +29,9 @@ mod records;
 mod telling;
 mod words;
 
-// One order of so many, and its line in the sheet. Says whether it could be written.
-fn told_order(
+// One order of so many, and its line in the sheet.
+fn told_order<W: Write>(
+    out: &mut W,
     claims: &[u32; Line::WORDS],
     trades: &[u32; Trades::WORDS],
     shown: &[u32; Shown::WORDS],
@@ -39,25 +41,24 @@ fn told_order(
     i: usize,
     close: u32,
     sheet: Sheet,
-) -> bool
+) -> io::Result<()>
     requires { (i < most_satisfaction_orders) × Filing claims.now lines }
 {
     let order = order::order_at(claims, cancelled, i);
     let m = rows::index(order.trade);
     if Trade::MOST <= m {
-        return false;
+        return Ok(());
     }
     let turn = order::turn_at(claims, m, order.sender, i);
-    telling::tell(order, turn, trades, shown, m, close);
+    telling::tell(out, order, turn, trades, shown, m, close)?;
     let due = claims::due_total(claims, trades, m);
-    words::told(b"  due to all orders for the trade: ", due);
-    words::say(b"\n");
+    writeln!(out, "  due to all orders for the trade: {due}")?;
     let shared = order.reason == Reason::NONE && due < beside::claimed(claims, m);
-    beside::tell_line(said, order, i, sheet, shared)
+    beside::tell_line(out, said, order, i, sheet, shared)
 }
 
-// Says whether they could be written.
-fn tell_orders(
+fn tell_orders<W: Write>(
+    out: &mut W,
     claims: &[u32; Line::WORDS],
     trades: &[u32; Trades::WORDS],
     shown: &[u32; Shown::WORDS],
@@ -66,22 +67,19 @@ fn tell_orders(
     lines: usize,
     close: u32,
     sheet: Sheet,
-) -> bool
+) -> io::Result<()>
     requires { (lines ≤ most_satisfaction_orders) × Filing claims.now lines }
 {
-    let mut i: usize = 0;
-    while i < lines {
-        if !told_order(
-            claims, trades, shown, said, cancelled, lines, i, close, sheet,
-        ) {
-            return false;
-        }
-        i += 1;
+    for i in 0..lines {
+        told_order(
+            out, claims, trades, shown, said, cancelled, lines, i, close, sheet,
+        )?;
     }
-    true
+    Ok(())
 }
 
-fn tell_trades(
+fn tell_trades<W: Write>(
+    out: &mut W,
     claims: &[u32; Line::WORDS],
     trades: &[u32; Trades::WORDS],
     shown: &[u32; Shown::WORDS],
@@ -89,21 +87,18 @@ fn tell_trades(
     traded: usize,
     lines: usize,
     sheet: Sheet,
-) -> bool
+) -> io::Result<()>
     requires { (traded ≤ most_trades) × Filing claims.now lines }
 {
-    let mut m: usize = 0;
-    while m < traded {
-        if !beside::tell_trade(claims, trades, shown, said, lines, m, sheet) {
-            return false;
-        }
-        m += 1;
+    for m in 0..traded {
+        beside::tell_trade(out, claims, trades, shown, said, lines, m, sheet)?;
     }
-    true
+    Ok(())
 }
 
 // Every order, then every trade, each with what the sheet says beside it.
-fn tell(
+fn tell<W: Write>(
+    out: &mut W,
     claims: &[u32; Line::WORDS],
     trades: &[u32; Trades::WORDS],
     shown: &[u32; Shown::WORDS],
@@ -113,22 +108,29 @@ fn tell(
     lines: usize,
     close: u32,
     sheet: Sheet,
-) -> bool
+) -> io::Result<()>
     requires traded_le_most_trades { (traded ≤ most_trades) × Filing claims.now lines }
     requires lines_le_most_satisfaction_orders { lines ≤ most_satisfaction_orders }
 {
     if lines == 0 {
-        words::say(b"no Satisfaction Order\n");
+        writeln!(out, "no Satisfaction Order")?;
     }
-    if !tell_orders(claims, trades, shown, said, cancelled, lines, close, sheet) {
-        return false;
-    }
-    beside::tell_extra(sheet, lines);
-    tell_trades(claims, trades, shown, said, traded, lines, sheet)
+    tell_orders(
+        out, claims, trades, shown, said, cancelled, lines, close, sheet,
+    )?;
+    beside::tell_extra(out, sheet, lines)?;
+    tell_trades(out, claims, trades, shown, said, traded, lines, sheet)
 }
 
 // The journal with a sheet of its own or one that was handed in, which the check accepted (0) or refused. A refused journal has no tables.
-fn explain(journal: &[u8], sheet: &[u8], own: bool, no: u32, at: usize) {
+fn explain<W: Write>(
+    out: &mut W,
+    journal: &[u8],
+    sheet: &[u8],
+    own: bool,
+    no: u32,
+    at: usize,
+) -> io::Result<()> {
     let mut trades = [0u32; Trades::WORDS];
     let mut shown = [0u32; Shown::WORDS];
     let mut claims = [0u32; Line::WORDS];
@@ -139,7 +141,7 @@ fn explain(journal: &[u8], sheet: &[u8], own: bool, no: u32, at: usize) {
         listed,
     } = survey::survey(journal, &mut trades, &mut shown, &mut claims, &mut list)
     else {
-        return;
+        return Ok(());
     };
     let mut said = [0u32; Said::WORDS];
     let reach = said::read_lines(sheet, lines, &mut said);
@@ -155,66 +157,88 @@ fn explain(journal: &[u8], sheet: &[u8], own: bool, no: u32, at: usize) {
     let mut times = [Cancelled::NEVER; SatisfactionOrder::MOST];
     cancelled::read(journal, front.used, head, &mut times);
     let close = head.close;
-    let written = tell(
-        &claims, &trades, &shown, &said, &times, traded, lines, close, told,
-    ) && received::tell(journal, front.used, head, &list, listed);
-    if !written {
-        os::fail(b"standard output");
+    tell(
+        out, &claims, &trades, &shown, &said, &times, traded, lines, close, told,
+    )?;
+    received::tell(out, journal, front.used, head, &list, listed)
+}
+
+fn print_explained(
+    rt: &HostRuntime,
+    journal: &[u8],
+    sheet: &[u8],
+    own: bool,
+    no: u32,
+    at: usize,
+) -> io::Result<()> {
+    let mut out = BufWriter::new(rt.alloc(), rt.stdout())?;
+    explain(&mut out, journal, sheet, own, no, at)?;
+    out.flush()
+}
+
+// On standard output; where that fails it is said.
+fn print(rt: &HostRuntime, journal: &[u8], sheet: &[u8], own: bool, no: u32, at: usize) {
+    if let Err(error) = print_explained(rt, journal, sheet, own, no, at) {
+        feed::failed(rt, "standard output", error);
     }
 }
 
-fn explain_own(journal: &[u8], sheet: &[u8], n: usize) {
+fn explain_own(rt: &HostRuntime, journal: &[u8], sheet: &[u8], n: usize) {
     if n <= sheet.len() {
-        explain(journal, &sheet[..n], true, 0, 0);
+        print(rt, journal, &sheet[..n], true, 0, 0);
     }
 }
 
 // The journal on standard input with our own sheet, or its refusal.
-fn explain_input() {
+fn explain_input(rt: &HostRuntime) {
     let mut journal = [0u8; Room::JOURNAL_INPUT];
     let mut sheet = [0u8; Room::OWN_SHEET];
-    let Input::Taken(n) = feed::standard_input(&mut journal) else {
+    let Input::Taken(n) = feed::standard_input(rt, &mut journal) else {
         return;
     };
     match answers::write_sheet(&journal[..n], &mut sheet) {
-        Rewritten::Unwritten { no, place } => feed::refused(STDOUT_FILENO, no, place),
-        Rewritten::Written { bytes } => explain_own(&journal[..n], &sheet, bytes),
+        Rewritten::Unwritten { no, place } => feed::refused(&mut rt.stdout(), no, place),
+        Rewritten::Written { bytes } => explain_own(rt, &journal[..n], &sheet, bytes),
     }
 }
 
-fn explain_checked(journal: &[u8], sheet: &[u8]) {
+fn explain_checked(rt: &HostRuntime, journal: &[u8], sheet: &[u8]) {
     match answers::check_sheet(journal, sheet) {
         Checked::Accepted => {
-            words::say(b"accepted\n");
-            explain(journal, sheet, false, 0, 0);
+            feed::print(rt, "accepted\n");
+            print(rt, journal, sheet, false, 0, 0);
         }
         Checked::Refused { no, place } => {
-            feed::refused(STDOUT_FILENO, no, place);
-            explain(journal, sheet, false, no, place);
+            feed::refused(&mut rt.stdout(), no, place);
+            print(rt, journal, sheet, false, no, place);
         }
     }
 }
 
 // `explain JOURNAL SHEET`
-fn explain_files() {
+fn explain_files(rt: &HostRuntime, journal_name: &str, sheet_name: &str) {
     let mut journal = [0u8; Room::JOURNAL_INPUT];
     let mut sheet = [0u8; Room::SHEET_INPUT];
-    let Input::Taken(n) = feed::file(1, &mut journal) else {
+    let Input::Taken(n) = feed::file(rt, journal_name, &mut journal) else {
         return;
     };
-    let Input::Taken(k) = feed::file(2, &mut sheet) else {
+    let Input::Taken(k) = feed::file(rt, sheet_name, &mut sheet) else {
         return;
     };
-    explain_checked(&journal[..n], &sheet[..k]);
+    explain_checked(rt, &journal[..n], &sheet[..k]);
 }
 
-fn main() {
-    let words = os::arg_count();
-    if words == 3 {
-        explain_files();
-    } else if words == 1 {
-        explain_input();
-    } else {
-        io::write_all(STDERR_FILENO, b"usage: explain, or explain JOURNAL SHEET\n");
+fn main(rt: HostRuntime) {
+    match env::args(&rt) {
+        Ok(mut words) => match (words.next(), words.next(), words.next(), words.next()) {
+            (_, Some(journal), Some(sheet), None) => {
+                explain_files(&rt, journal.as_str(), sheet.as_str());
+            }
+            (_, None, _, _) => explain_input(&rt),
+            _ => {
+                let _ = eprintln!(rt; "usage: explain, or explain JOURNAL SHEET");
+            }
+        },
+        Err(error) => feed::failed(&rt, "argument", error),
     }
 }

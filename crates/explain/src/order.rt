@@ -129,13 +129,11 @@ fn first_of(claims: &[u32; Line::WORDS], m: usize, sender: u32, i: usize) -> usi
     requires { Findable claims.now m }
 {
     let k = claims::lines_of(claims, m);
-    let mut j: usize = 0;
-    while j < k {
+    for j in 0..k {
         let line = claims::line_of(claims, m, j);
         if claims[line * 8 + Line::SENDER] == sender {
             return line;
         }
-        j += 1;
     }
     i
 }

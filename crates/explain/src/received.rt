@@ -3,11 +3,14 @@
 ghost use Rattle.std.specs.Prelude.{◌<◌, ◌≤◌};
 ghost use Rattle.list.specs.Listing.{most_rows};
 
-use crate::{order, records, telling, words};
+use crate::words::Clock;
+use crate::{order, records, telling};
 use header::Head;
 use list::Row;
 use orders::{Duty, Order};
 use rows::{Rec, Type, Way};
+use std::io;
+use std::io::Write;
 
 // A line R: its event, a, b and c.
 #[derive(Clone, Copy)]
@@ -34,12 +37,10 @@ fn row_from(list: &[u32; Row::MOST * Row::WORDS], listed: usize, from: usize, ev
     requires { (listed ≤ most_rows) × (from ≤ listed) }
     ensures { result ≤ listed }
 {
-    let mut i = from;
-    while i < listed {
+    for i in from..listed {
         if event <= rows::index(list[i * Row::WORDS + Row::EVENT]) {
             return i;
         }
-        i += 1;
     }
     listed
 }
@@ -66,120 +67,147 @@ fn keep_execution(executed: &mut [u32; 16], sender: usize, event: u32, time: u32
     executed[at + 1] = time;
 }
 
-fn say_record(order: Order, event: u32, time: u32) {
-    words::told(b"Event ", event);
+fn say_record<W: Write>(out: &mut W, order: Order, event: u32, time: u32) -> io::Result<()> {
+    write!(out, "Event {event}")?;
     if order.kind == Type::LINKED {
-        words::say(b": P/A order");
+        write!(out, ": P/A order")?;
     } else {
-        words::say(b": principal order");
+        write!(out, ": principal order")?;
     }
-    words::counted(b" from exchange ", order.other);
+    write!(out, " from exchange {}", order.other)?;
     if order.side == Way::BUY {
-        words::told(b", buy ", order.size);
+        write!(out, ", buy {}", order.size)?;
     } else {
-        words::told(b", sell ", order.size);
+        write!(out, ", sell {}", order.size)?;
     }
-    words::told(b" contracts at ", order.price);
-    words::counted(b" cents in series ", order.series);
-    words::say(b", received at ");
-    words::clock(rows::wide(time));
-    words::say(b"\n");
+    writeln!(
+        out,
+        " contracts at {} cents in series {}, received at {}",
+        order.price,
+        order.series,
+        Clock(rows::wide(time))
+    )
 }
 
 // "home's bid (sell) or offer (buy)"
-fn say_ours(side: u32) {
+fn say_ours<W: Write>(out: &mut W, side: u32) -> io::Result<()> {
     if side == Way::BUY {
-        words::say(b"home's offer");
+        write!(out, "home's offer")
     } else {
-        words::say(b"home's bid");
+        write!(out, "home's bid")
     }
 }
 
-fn say_firm_size(kind: u32) {
+fn say_firm_size<W: Write>(out: &mut W, kind: u32) -> io::Result<()> {
     if kind == Type::LINKED {
-        words::say(b"the lesser of both automatic sizes, 6.93(e)");
+        write!(out, "the lesser of both automatic sizes, 6.93(e)")
     } else {
-        words::say(b"home's principal size, 6.93(e)");
+        write!(out, "home's principal size, 6.93(e)")
     }
 }
 
-fn say_execution(sender: usize, time: u32, execution: Execution) {
-    words::counted(b"a principal order of exchange ", sender);
-    words::told(
-        b" had to be executed whole ",
+fn say_execution<W: Write>(
+    out: &mut W,
+    sender: usize,
+    time: u32,
+    execution: Execution,
+) -> io::Result<()> {
+    write!(
+        out,
+        "a principal order of exchange {sender} had to be executed whole {} ms before (event {}), 6.93(c)(2)",
         telling::since(execution.time, time),
-    );
-    words::told(b" ms before (event ", execution.event);
-    words::say(b"), 6.93(c)(2)");
+        execution.event
+    )
 }
 
 // "First that holds."
-fn say_none(order: Order, time: u32, why: u32, execution: Execution) {
-    words::told(b"  no duty, reason ", why);
-    words::say(b": ");
+fn say_none<W: Write>(
+    out: &mut W,
+    order: Order,
+    time: u32,
+    why: u32,
+    execution: Execution,
+) -> io::Result<()> {
+    write!(out, "  no duty, reason {why}: ")?;
     match why {
         Duty::ABSENT_OR_WORSE => {
-            say_ours(order.side);
-            words::say(b" is absent or worse than its price, 6.93(e)");
+            say_ours(out, order.side)?;
+            write!(out, " is absent or worse than its price, 6.93(e)")
         }
         Duty::NOT_BEST => {
-            say_ours(order.side);
-            words::say(b" is not the best, 6.93(e)");
+            say_ours(out, order.side)?;
+            write!(out, " is not the best, 6.93(e)")
         }
-        Duty::NON_FIRM => {
-            words::say(b"home is non-firm, 6.92(a)(15)");
-        }
-        _ => say_execution(order.other, time, execution),
+        Duty::NON_FIRM => write!(out, "home is non-firm, 6.92(a)(15)"),
+        _ => say_execution(out, order.other, time, execution),
     }
 }
 
 // "the whole order if not above the firm size". Of a principal order it is the initial execution: "further principal orders from the same sender
 // in the class, any series, have no duty for 15 seconds".
-fn say_whole(order: Order) {
-    words::say(b"  the whole order: it is not above ");
-    say_firm_size(order.kind);
+fn say_whole<W: Write>(out: &mut W, order: Order) -> io::Result<()> {
+    write!(out, "  the whole order: it is not above ")?;
+    say_firm_size(out, order.kind)?;
     if order.kind == Type::PRINCIPAL {
-        words::counted(b"\n  a period begins for exchange ", order.other);
-        words::say(
-            b", 6.93(c)(2): for 15 seconds no duty to its further principal orders, unless ",
-        );
-        say_ours(order.side);
-        words::counted(b" in series ", order.series);
-        words::say(
-            b" has moved and is the best; then up to a minute \"at least\", unless it has moved",
-        );
+        writeln!(out)?;
+        write!(
+            out,
+            "  a period begins for exchange {}, 6.93(c)(2): for 15 seconds no duty to its further principal orders, unless ",
+            order.other
+        )?;
+        say_ours(out, order.side)?;
+        write!(
+            out,
+            " in series {} has moved and is the best; then up to a minute \"at least\", unless it has moved",
+            order.series
+        )?;
     }
+    Ok(())
 }
 
 // "the lesser of its size and our principal size. It starts no new period." Otherwise an order that is not executed whole is above the firm size.
-fn say_at_least(order: Order, time: u32, contracts: u32, execution: Execution) {
-    words::told(b"  at least ", contracts);
+fn say_at_least<W: Write>(
+    out: &mut W,
+    order: Order,
+    time: u32,
+    contracts: u32,
+    execution: Execution,
+) -> io::Result<()> {
+    write!(out, "  at least {contracts}")?;
     if contracts < order.size {
-        words::say(b": ");
-        say_firm_size(order.kind);
+        write!(out, ": ")?;
+        say_firm_size(out, order.kind)?;
     } else {
-        words::say(b", which is all of it, and no new period begins: ");
-        say_execution(order.other, time, execution);
+        write!(out, ", which is all of it, and no new period begins: ")?;
+        say_execution(out, order.other, time, execution)?;
     }
+    Ok(())
 }
 
-fn say_verdict(order: Order, time: u32, verdict: Verdict, execution: Execution) -> bool {
+fn say_verdict<W: Write>(
+    out: &mut W,
+    order: Order,
+    time: u32,
+    verdict: Verdict,
+    execution: Execution,
+) -> io::Result<()> {
     let duty = verdict.duty;
     match duty {
-        Duty::NONE => say_none(order, time, verdict.why, execution),
-        Duty::WHOLE => say_whole(order),
-        _ => say_at_least(order, time, verdict.contracts, execution),
-    }
-    words::say(b"\n")
+        Duty::NONE => say_none(out, order, time, verdict.why, execution),
+        Duty::WHOLE => say_whole(out, order),
+        _ => say_at_least(out, order, time, verdict.contracts, execution),
+    }?;
+    writeln!(out)
 }
 
-// One order, by the row of its event. Says whether it could be written.
-fn tell_order(
+// One order, by the row of its event.
+fn tell_order<W: Write>(
+    out: &mut W,
     rec: Rec,
     list: &[u32; Row::MOST * Row::WORDS],
     i: usize,
     executed: &mut [u32; 16],
-) -> bool
+) -> io::Result<()>
     requires { i < most_rows }
 {
     let order = orders::order_of(rec);
@@ -188,18 +216,19 @@ fn tell_order(
     if order.kind == Type::PRINCIPAL && verdict.duty == Duty::WHOLE {
         keep_execution(executed, order.other, verdict.event, rec.time);
     }
-    say_record(order, verdict.event, rec.time);
-    say_verdict(order, rec.time, verdict, execution)
+    say_record(out, order, verdict.event, rec.time)?;
+    say_verdict(out, order, rec.time, verdict, execution)
 }
 
-// Each of them, in the order of the journal. Says whether they could be written.
-pub fn tell(
+// Each of them, in the order of the journal.
+pub fn tell<W: Write>(
+    out: &mut W,
     journal: &[u8],
     start: usize,
     head: Head,
     list: &[u32; Row::MOST * Row::WORDS],
     listed: usize,
-) -> bool
+) -> io::Result<()>
     requires { listed ≤ most_rows }
 {
     let mut executed = [0u32; 16];
@@ -211,21 +240,19 @@ pub fn tell(
         let next = records::next(journal, at, head, time);
         let used = next.used;
         if used == 0 {
-            return true;
+            return Ok(());
         }
         let rec = next.rec;
         i = row_from(list, listed, i, event);
         if i == listed {
-            return true;
+            return Ok(());
         }
         if rec.kind == Rec::RECEIVED {
-            if !tell_order(rec, list, i, &mut executed) {
-                return false;
-            }
+            tell_order(out, rec, list, i, &mut executed)?;
         }
         time = rec.time;
         at += used;
         event += 1;
     }
-    true
+    Ok(())
 }

@@ -5,63 +5,65 @@ ghost use Rattle.rules.specs.Reasons.{three_minutes};
 
 use crate::cancelled::Cancelled;
 use crate::order::{Order, There, Traded, Turn};
+use crate::words::Clock;
 use crate::{order, words};
 use prices::Side;
 use reasons::{Claim, Reason, Receipt};
+use std::io;
+use std::io::Write;
 use trades::{Shown, Trades};
 
-fn say_order(order: Order) {
-    words::counted(b"Satisfaction Order ", order.number);
-    words::told(b" from exchange ", order.sender);
-    words::told(b": ", order.size);
-    words::told(b" contracts at ", order.asked);
-    words::told(b" cents, for trade ", order.trade);
-    words::say(b"\n");
+fn say_order<W: Write>(out: &mut W, order: Order) -> io::Result<()> {
+    writeln!(
+        out,
+        "Satisfaction Order {} from exchange {}: {} contracts at {} cents, for trade {}",
+        order.number, order.sender, order.size, order.asked, order.trade
+    )
 }
 
-pub fn say_contracts(traded: Traded) {
-    words::told(b": ", traded.size);
-    words::told(b" contracts at ", traded.price);
-    words::told(b" cents in series ", traded.series);
+pub fn say_contracts<W: Write>(out: &mut W, traded: Traded) -> io::Result<()> {
+    write!(
+        out,
+        ": {} contracts at {} cents in series {}",
+        traded.size, traded.price, traded.series
+    )
 }
 
-fn say_marks(traded: Traded) {
+fn say_marks<W: Write>(out: &mut W, traded: Traded) -> io::Result<()> {
     if traded.block == 1 {
-        words::say(b", a block");
+        write!(out, ", a block")?;
     }
     if traded.complex == 1 {
-        words::say(b", complex");
+        write!(out, ", complex")?;
     }
     if traded.initiator != 0 {
-        words::told(b", initiated by exchange ", traded.initiator);
+        write!(out, ", initiated by exchange {}", traded.initiator)?;
     }
     if traded.closing == 1 {
-        words::say(b", after the closing record");
+        write!(out, ", after the closing record")?;
     }
+    Ok(())
 }
 
-fn say_trade(traded: Traded) {
-    words::say(b"  the trade");
-    say_contracts(traded);
-    words::say(b", reported at ");
-    words::clock(rows::wide(traded.report));
-    say_marks(traded);
-    words::say(b"\n");
+fn say_trade<W: Write>(out: &mut W, traded: Traded) -> io::Result<()> {
+    write!(out, "  the trade")?;
+    say_contracts(out, traded)?;
+    write!(out, ", reported at {}", Clock(rows::wide(traded.report)))?;
+    say_marks(out, traded)?;
+    writeln!(out)
 }
 
 // "An away exchange is traded through if its bid is above the price or its offer below it."
-fn say_through(there: There, customers: u32) {
+fn say_through<W: Write>(out: &mut W, there: There, customers: u32) -> io::Result<()> {
     if there.side == Side::NEITHER {
-        words::say(b"  not traded through\n");
-        return;
+        return writeln!(out, "  not traded through");
     }
     if there.side == Side::BID {
-        words::told(b"  traded through: its bid of ", there.price);
+        write!(out, "  traded through: its bid of {}", there.price)?;
     } else {
-        words::told(b"  traded through: its offer of ", there.price);
+        write!(out, "  traded through: its offer of {}", there.price)?;
     }
-    words::told(b" cents, ", customers);
-    words::say(b" customer contracts\n");
+    writeln!(out, " cents, {customers} customer contracts")
 }
 
 // The last moment in time: so long after the report, or after a cancellation.
@@ -71,26 +73,27 @@ fn until(from: u32, allowed: u64) -> u64
     rows::wide(from) + allowed
 }
 
-fn say_allowed(allowed: u64, initiator: u32) {
+fn say_allowed<W: Write>(out: &mut W, allowed: u64, initiator: u32) -> io::Result<()> {
     if allowed == Receipt::ONE_MINUTE {
-        words::say(b", one minute after a report in the last five minutes\n");
-        return;
+        return writeln!(out, ", one minute after a report in the last five minutes");
     }
-    words::say(b", three minutes after the report");
+    write!(out, ", three minutes after the report")?;
     if initiator != 0 {
-        words::say(b" of a trade that another exchange initiated");
+        write!(out, " of a trade that another exchange initiated")?;
     }
-    words::say(b"\n");
+    writeln!(out)
 }
 
 // 8 and 9: when the order came, and the limit that applies to it.
-fn say_time(time: u32, traded: Traded, close: u32) {
+fn say_time<W: Write>(out: &mut W, time: u32, traded: Traded, close: u32) -> io::Result<()> {
     let allowed = reasons::allowed(traded.initiator, traded.report, close);
-    words::say(b"  received at ");
-    words::clock(rows::wide(time));
-    words::say(b"; in time until ");
-    words::clock(until(traded.report, allowed));
-    say_allowed(allowed, traded.initiator);
+    write!(
+        out,
+        "  received at {}; in time until {}",
+        Clock(rows::wide(time)),
+        Clock(until(traded.report, allowed))
+    )?;
+    say_allowed(out, allowed, traded.initiator)
 }
 
 // How long after one record another came: one that cancels an order after that order, an order that is sent again after the cancellation, and a
@@ -103,159 +106,176 @@ pub fn since(before: u32, after: u32) -> u32 {
 }
 
 // "The first keeps the reason it has", and its exchange "may send again within three minutes".
-fn say_first(sender: u32, cancelled: u32) {
-    words::say(b"  cancelled at ");
-    words::clock(rows::wide(cancelled));
-    words::say(
-        b" as priced for a block that was none; it keeps its reason, and nothing of it is filled\n",
-    );
-    words::told(b"  exchange ", sender);
-    words::say(b" may send again until ");
-    words::clock(until(cancelled, Receipt::THREE_MINUTES));
-    words::say(b", three minutes after the cancellation, 6.94(a)(2)(i)\n");
+fn say_first<W: Write>(out: &mut W, sender: u32, cancelled: u32) -> io::Result<()> {
+    writeln!(
+        out,
+        "  cancelled at {} as priced for a block that was none; it keeps its reason, and nothing of it is filled",
+        Clock(rows::wide(cancelled))
+    )?;
+    writeln!(
+        out,
+        "  exchange {sender} may send again until {}, three minutes after the cancellation, 6.94(a)(2)(i)",
+        Clock(until(cancelled, Receipt::THREE_MINUTES))
+    )
 }
 
 // 15, in the place of 8 and 9: "later than 180,000 ms after the cancellation".
-fn say_second(time: u32, first: usize, cancelled: u32) {
+fn say_second<W: Write>(out: &mut W, time: u32, first: usize, cancelled: u32) -> io::Result<()> {
     let after = rows::wide(since(cancelled, time));
-    words::counted(b"  sent again after order ", first);
-    words::say(b" was cancelled at ");
-    words::clock(rows::wide(cancelled));
-    words::say(b"; judged from then, and not from the report\n  received at ");
-    words::clock(rows::wide(time));
-    words::say(b", ");
-    words::clock(after);
-    words::say(b" after the cancellation; the limit is three minutes: ");
+    writeln!(
+        out,
+        "  sent again after order {first} was cancelled at {}; judged from then, and not from the report",
+        Clock(rows::wide(cancelled))
+    )?;
+    write!(
+        out,
+        "  received at {}, {} after the cancellation; the limit is three minutes: ",
+        Clock(rows::wide(time)),
+        Clock(after)
+    )?;
     if Receipt::THREE_MINUTES < after {
-        words::say(b"late\n");
+        writeln!(out, "late")
     } else {
-        words::say(b"in time\n");
+        writeln!(out, "in time")
     }
 }
 
 // When the order came, and what that is judged by.
-fn say_received(order: Order, turn: Turn, traded: Traded, close: u32) {
+fn say_received<W: Write>(
+    out: &mut W,
+    order: Order,
+    turn: Turn,
+    traded: Traded,
+    close: u32,
+) -> io::Result<()> {
     match turn {
-        Turn::Only => say_time(order.time, traded, close),
+        Turn::Only => say_time(out, order.time, traded, close),
         Turn::First { cancelled } => {
-            say_time(order.time, traded, close);
-            say_first(order.sender, cancelled);
+            say_time(out, order.time, traded, close)?;
+            say_first(out, order.sender, cancelled)
         }
-        Turn::Second { first, cancelled } => say_second(order.time, first, cancelled),
+        Turn::Second { first, cancelled } => say_second(out, order.time, first, cancelled),
     }
 }
 
-fn say_minutes(minutes: u64) {
+fn say_minutes<W: Write>(out: &mut W, minutes: u64) -> io::Result<()> {
     if minutes == Receipt::ONE_MINUTE {
-        words::say(b"one minute for an order received five minutes before the close or later");
+        write!(
+            out,
+            "one minute for an order received five minutes before the close or later"
+        )
     } else {
-        words::say(b"three minutes");
+        write!(out, "three minutes")
     }
 }
 
 // "A cancellation in time makes reason 14, judged after 9 and before 11 ..; a late one cancels and changes nothing."
-fn say_outcome(in_time: bool, reason: u32) {
+fn say_outcome<W: Write>(out: &mut W, in_time: bool, reason: u32) -> io::Result<()> {
     if !in_time {
-        words::say(b": late, and changes nothing\n");
-        return;
+        return writeln!(out, ": late, and changes nothing");
     }
-    words::say(b": in time");
+    write!(out, ": in time")?;
     if reason != Reason::INITIATOR_NAMED {
-        words::told(b", but reason ", reason);
-        words::say(b" is judged before it and stands");
+        write!(out, ", but reason {reason} is judged before it and stands")?;
     }
-    words::say(b"\n");
+    writeln!(out)
 }
 
 // 14: when home cancelled the order and whom it named, and the limit that applies to that. Nobody but the initiator can be named.
-fn say_cancelled(order: Order, initiator: u32, close: u32) {
+fn say_cancelled<W: Write>(
+    out: &mut W,
+    order: Order,
+    initiator: u32,
+    close: u32,
+) -> io::Result<()> {
     if order.cancelled == Cancelled::NEVER {
-        return;
+        return Ok(());
     }
-    words::say(b"  cancelled at ");
-    words::clock(rows::wide(order.cancelled));
-    words::told(b" and exchange ", initiator);
-    words::say(b" named, ");
-    words::clock(rows::wide(since(order.time, order.cancelled)));
-    words::say(b" after it was received; the limit is ");
-    say_minutes(reasons::minutes_from(order.time, close));
+    write!(
+        out,
+        "  cancelled at {} and exchange {initiator} named, {} after it was received; the limit is ",
+        Clock(rows::wide(order.cancelled)),
+        Clock(rows::wide(since(order.time, order.cancelled)))
+    )?;
+    say_minutes(out, reasons::minutes_from(order.time, close))?;
     say_outcome(
+        out,
         reasons::in_time(order.time, close, order.cancelled),
         order.reason,
-    );
+    )
 }
 
-fn say_required(block: u32, side: u32) {
+fn say_required<W: Write>(out: &mut W, block: u32, side: u32) -> io::Result<()> {
     if block == 1 {
-        words::say(b" cents, the price of the block\n");
-        return;
+        return writeln!(out, " cents, the price of the block");
     }
     if side == Side::BID {
-        words::say(b" cents, the bid traded through\n");
+        writeln!(out, " cents, the bid traded through")
     } else {
-        words::say(b" cents, the offer traded through\n");
+        writeln!(out, " cents, the offer traded through")
     }
 }
 
 // 11 and 12: the order's own price beside "the one required".
-fn say_price(asked: u32, traded: Traded, there: There) {
+fn say_price<W: Write>(out: &mut W, asked: u32, traded: Traded, there: There) -> io::Result<()> {
     if there.side == Side::NEITHER {
-        return;
+        return Ok(());
     }
     let required = reasons::required(traded.block, traded.price, there.price);
-    words::told(b"  its price ", asked);
-    words::told(b" cents; required ", required);
-    say_required(traded.block, there.side);
+    write!(out, "  its price {asked} cents; required {required}")?;
+    say_required(out, traded.block, there.side)
 }
 
 // "For a trade after it, each claim is also at most 10"
-fn say_limit(least: u32) {
-    words::told(b" is ", least);
-    words::told(b"; at most ", Claim::MOST_AT_THE_CLOSE);
-    words::say(b" for a trade after the closing record, 6.94(a)(2)(ii)(C)");
+fn say_limit<W: Write>(out: &mut W, least: u32) -> io::Result<()> {
+    write!(
+        out,
+        " is {least}; at most {} for a trade after the closing record, 6.94(a)(2)(ii)(C)",
+        Claim::MOST_AT_THE_CLOSE
+    )
 }
 
-fn say_least(size: u32, customers: u32, traded: u32) {
-    words::told(b": the least of ", size);
-    words::told(b" ordered, ", customers);
-    words::told(b" customer contracts and ", traded);
-    words::say(b" traded");
+fn say_least<W: Write>(out: &mut W, size: u32, customers: u32, traded: u32) -> io::Result<()> {
+    write!(
+        out,
+        ": the least of {size} ordered, {customers} customer contracts and {traded} traded"
+    )
 }
 
 // "0 for a reason other than 0; else the least of order size, customer contracts and trade size"
-fn say_claim(order: Order, traded: u32) {
-    words::told(b"  claim ", order.claim);
+fn say_claim<W: Write>(out: &mut W, order: Order, traded: u32) -> io::Result<()> {
+    write!(out, "  claim {}", order.claim)?;
     if order.reason != Reason::NONE {
-        words::say(b": there is a reason\n");
-        return;
+        return writeln!(out, ": there is a reason");
     }
     let least = reasons::least_of(order.size, order.customers, traded);
-    say_least(order.size, order.customers, traded);
+    say_least(out, order.size, order.customers, traded)?;
     if order.claim < least {
-        say_limit(least);
+        say_limit(out, least)?;
     }
-    words::say(b"\n");
+    writeln!(out)
 }
 
 // All of it, for an order of trade m in a journal with this close.
-pub fn tell(
+pub fn tell<W: Write>(
+    out: &mut W,
     order: Order,
     turn: Turn,
     trades: &[u32; Trades::WORDS],
     shown: &[u32; Shown::WORDS],
     m: usize,
     close: u32,
-)
+) -> io::Result<()>
     requires { m < most_trades }
 {
     let traded = order::trade_at(trades, shown, m);
     let there = order::there_at(shown, m, order.sender);
-    say_order(order);
-    say_trade(traded);
-    say_through(there, order.customers);
-    say_received(order, turn, traded, close);
-    say_cancelled(order, traded.initiator, close);
-    say_price(order.asked, traded, there);
-    words::reason(order.reason, there.excuser, traded.initiator);
-    say_claim(order, traded.size);
+    say_order(out, order)?;
+    say_trade(out, traded)?;
+    say_through(out, there, order.customers)?;
+    say_received(out, order, turn, traded, close)?;
+    say_cancelled(out, order, traded.initiator, close)?;
+    say_price(out, order.asked, traded, there)?;
+    words::reason(out, order.reason, there.excuser, traded.initiator)?;
+    say_claim(out, order, traded.size)
 }

@@ -1,13 +1,17 @@
 // What the programs share: lent buffers filled from standard input or a named file, answers sent, refusals said. An answer goes to standard output, whatever is no answer to standard error.
 #![tactic(auto)]
 
-ghost use Rattle.std.specs.Prelude.{length};
+ghost use Rattle.std.specs.Prelude.{◌≡◌, length, IfOk};
 ghost use Rattle.feed.specs.Filled.{Filled};
+ghost use Rattle.feed.specs.declared.Input.TheVariants.{Taken};
 
 use counted::SatisfactionOrder;
 use journal::Rewritten;
-use libc::{STDIN_FILENO, STDOUT_FILENO};
 use number::Number;
+use std::fmt::Display;
+use std::io::{Read, Write};
+use std::rt::Files;
+use std::{fs, io};
 use text::Written;
 use walk::Journal;
 
@@ -38,91 +42,102 @@ impl Room {
     pub const SHEET_INPUT: usize = 65537;
 }
 
-// Reads until buf is full or the input ends.
-pub fn take(fd: i32, buf: &mut [u8]) -> Input
-    ensures { Filled (length buf.new) result }
+// Reads until buf is full or the input ends. After an error some of buf may have been written over.
+pub fn take<R: Read>(reader: &mut R, buf: &mut [u8]) -> io::Result<usize>
+    ensures { IfOk result (λ n. Filled (length buf.new) (Taken n)) }
 {
     let mut done: usize = 0;
     while done < buf.len() {
-        let part = &mut buf[done..];
-        let got = libc::read(fd, part);
-        if got < 0 {
-            return Input::Failed;
-        }
-        let n = io::count(got, part);
+        let n = reader.read(&mut buf[done..])?;
         if n == 0 {
-            return Input::Taken(done);
+            return Ok(done);
         }
         done += n;
     }
-    Input::Taken(done)
+    Ok(done)
 }
 
-pub fn standard_input(buf: &mut [u8]) -> Input
+// Says on standard error what failed, and why. Where that cannot be written either there is nobody to tell.
+pub fn failed(rt: &impl Eprint, what: &str, error: io::Error) {
+    let _ = eprintln!(rt; "{what}: {error}");
+}
+
+pub fn standard_input(rt: &(impl io::Input + Eprint), buf: &mut [u8]) -> Input
     ensures { Filled (length buf.new) result }
 {
-    let got = take(STDIN_FILENO, buf);
-    if let Input::Failed = got {
-        os::fail(b"standard input");
+    match take(&mut rt.reader(), buf) {
+        Ok(n) => Input::Taken(n),
+        Err(error) => {
+            failed(rt, "standard input", error);
+            Input::Failed
+        }
     }
-    got
 }
 
-// Reads the file that argument i names.
-pub fn file(i: usize, buf: &mut [u8]) -> Input
+fn take_file(files: &impl Files, path: &str, buf: &mut [u8]) -> io::Result<usize>
+    ensures { IfOk result (λ n. Filled (length buf.new) (Taken n)) }
+{
+    let mut file = fs::open(files, path)?;
+    take(&mut file, buf)
+}
+
+// Reads the file of this name.
+pub fn file(rt: &(impl Files + Eprint), path: &str, buf: &mut [u8]) -> Input
     ensures { Filled (length buf.new) result }
 {
-    let mut path = io::buffer();
-    let n = os::arg(i, &mut path);
-    if os::errno() != 0 {
-        os::fail(b"argument");
-        return Input::Failed;
+    match take_file(rt, path, buf) {
+        Ok(n) => Input::Taken(n),
+        Err(error) => {
+            failed(rt, path, error);
+            Input::Failed
+        }
     }
-    let fd = os::open_read(&path[..n]);
-    if fd < 0 {
-        os::fail(&path[..n]);
-        return Input::Failed;
-    }
-    let got = take(fd, buf);
-    if let Input::Failed = got {
-        os::fail(&path[..n]);
-    }
-    libc::close(fd);
-    got
 }
 
-// Sends the first n bytes of out.
-fn send_to(fd: i32, out: &[u8], n: usize) -> bool {
+// Sends the first n bytes of out to standard output, and says whether it could.
+pub fn send(rt: &(impl Print + Eprint), out: &[u8], n: usize) -> bool {
     if out.len() < n {
         return false;
     }
-    io::write_all(fd, &out[..n])
+    match rt.write_all(&out[..n]) {
+        Ok(()) => true,
+        Err(error) => {
+            failed(rt, "standard output", error);
+            false
+        }
+    }
 }
 
-pub fn send(out: &[u8], n: usize) -> bool {
-    let sent = send_to(STDOUT_FILENO, out, n);
-    if !sent {
-        os::fail(b"standard output");
+// Prints a text on standard output; where that fails it is said.
+pub fn print<D: Display + Drop>(rt: &(impl Print + Eprint), shown: D) {
+    if let Err(error) = rt.print(shown) {
+        failed(rt, "standard output", error);
     }
-    sent
 }
 
 // "It prints `refused 2 at 0` (number, place)"
-pub fn refused(fd: i32, no: u32, place: usize) {
+pub fn refused<W: Write>(to: &mut W, no: u32, place: usize) {
     let mut line = [0u8; Room::REFUSAL];
     let Written::To(n) = text::write_refusal(&mut line, no, place) else {
         return;
     };
-    send_to(fd, &line, n);
+    if n <= line.len() {
+        let _ = to.write_all(&line[..n]);
+    }
 }
 
 // What an entry wrote is sent; its refusal is said.
-pub fn answer(answered: Rewritten, out: &[u8], fd: i32) {
+pub fn answer<W: Write>(
+    rt: &(impl Print + Eprint),
+    answered: Rewritten,
+    out: &[u8],
+    refusals: &mut W,
+) {
     match answered {
         Rewritten::Written { bytes } => {
-            send(out, bytes);
+            send(rt, out, bytes);
         }
-        Rewritten::Unwritten { no, place } => refused(fd, no, place),
+        Rewritten::Unwritten { no, place } => refused(refusals, no, place),
     }
 }
 

@@ -3,14 +3,13 @@
 
 use feed::{Input, Room};
 use journal::Rewritten;
-use libc::STDERR_FILENO;
 
-fn main() {
+fn main(rt: HostRuntime) {
     let mut journal = [0u8; Room::JOURNAL_INPUT];
     let mut sheet = [0u8; Room::OWN_SHEET];
-    let Input::Taken(n) = feed::standard_input(&mut journal) else {
+    let Input::Taken(n) = feed::standard_input(&rt, &mut journal) else {
         return;
     };
     let answered: Rewritten = answers::write_sheet(&journal[..n], &mut sheet);
-    feed::answer(answered, &sheet, STDERR_FILENO);
+    feed::answer(&rt, answered, &sheet, &mut rt.stderr());
 }
