@@ -1,0 +1,6 @@
+use Rattle.desk.proofs.Exports.{writer_gives}
+use Rattle.std.proofs.Common.{rules}
+use Rattle.desk.proofs.hasurenta_day.Goals as goal
+
+pub returns : goal.returns
+returns c = search (writer_gives, rules)
