@@ -112,13 +112,13 @@ module _ (j : Journal) (trades claims : List ℕ) (traded n : ℕ) (b : Books j 
             sound =
                 λ x mem. known_line_sound j.header j.history x
                 (lines_known b.arrived j.history x (unfold of_trade in keep_sub _ (lines_of j.header j.history j.history) x mem));
-            claim_words_lem = g.claim_words_lem;
+            claim_words = g.claim_words;
             customer_words = g.customer_words;
           }
 
       shares_gathered : (fill : List ℕ) → FillsGathered claims said m fill → fairness.Gathered (shares_of m (besides claims said n)) claim customers fill k
       shares_gathered fill f =
-          let its : trade_lines claims m (many_of claims m) ≡ of_trade m (lines j) = unfold lines in b.lined.by_trade_lem m hm in
+          let its : trade_lines claims m (many_of claims m) ≡ of_trade m (lines j) = unfold lines in b.lined.by_trade m hm in
           subst (λ (ss : List Share). fairness.Gathered ss claim customers fill k) (sym trade_shares)
           (record {
             lined = subst (λ (ls : List Line). fairness.Lined ls claim customers k) (sym (lines_filled said (of_trade m (lines j)))) lined;

@@ -71,7 +71,7 @@ lines_none h =
     record {
       numbered = refl;
       lines = refl;
-      by_trade_lem = λ m hm. rw (none_of_trade m);
+      by_trade = λ m hm. rw (none_of_trade m);
       sums = λ m hm. none_claimed m;
       told = λ i hi. let z : ⊥ = omega arith in elim z [ ];
       again = λ m y hm hy. replicate_at {A = ℕ} line_words (again_word m y) 0;

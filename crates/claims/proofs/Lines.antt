@@ -106,7 +106,7 @@ lines_stay h past claims lines e ne nc All-same held =
     record {
       numbered = held.numbered ∙ sym (count_skip is_satisfaction e past (ne_eqb e.kind satisfaction_kind ne));
       lines = held.lines ∙ same;
-      by_trade_lem = λ m hm. held.by_trade_lem m hm ∙ ap (of_trade m) same;
+      by_trade = λ m hm. held.by_trade m hm ∙ ap (of_trade m) same;
       sums = λ m hm. held.sums m hm ∙ ap (λ (l : List Line). sum (claims_of (of_trade m l))) same;
       told = λ i hi. rw (nth_skip is_satisfaction i e past (rw (ne_eqb e.kind satisfaction_kind ne))) (held.told i hi);
       again = λ m y hm hy. held.again m y hm hy ∙ ap again_at (sym (none_taken_back m (y + 1) e past (ne_eqb e.kind cancellation_kind nc)));
@@ -413,7 +413,7 @@ module _ (r : Rec) (home exchanges close : ℕ) (trades shown : List ℕ) (trade
             (λ i hi. let same : number_at claims2 a i ≡ number_at claims a i =
             f.number_other a i ha (omega (arith, fi.few_lines a ha)) (λ p q. let z : many_of claims a ≡ many_of claims m = ap (many_of claims) p in omega arith) in
             ap (line_in claims2) same ∙ line_kept (number_at claims a i) (fi.earlier a i ha hi))
-            ∙ held.by_trade_lem a ha
+            ∙ held.by_trade a ha
 
         by_trade_after : (a : ℕ) → a < most_trades → trade_lines claims2 a (many_of claims2 a) ≡ of_trade a (lines_of h (e ∷ past) (e ∷ past))
         by_trade_after a ha =
@@ -441,7 +441,7 @@ module _ (r : Rec) (home exchanges close : ℕ) (trades shown : List ℕ) (trade
             record {
               numbered = omega (arith, held.numbered, count_cons is_satisfaction e past (eq-eqb e.kind satisfaction_kind sat));
               lines = lines_after;
-              by_trade_lem = by_trade_after;
+              by_trade = by_trade_after;
               sums = sums_after;
               told = told_after;
               again =

@@ -42,17 +42,17 @@ column_more claims m i j v of words ej ev h same =
 module _ (claims : List ℕ) (m k : ℕ) (mk : ManyIs claims m k) (claim customers : List ℕ) where
   pub none_gathered : length claim ≡ most_trade_lines → length customers ≡ most_trade_lines → Gathering claims m k 0 claim customers
   unfolding trade_lines below
-  none_gathered lc lu = record { claims = refl; contracts = refl; low = omega arith; claim_words_lem = lc; customer_words = lu }
+  none_gathered lc lu = record { claims = refl; contracts = refl; low = omega arith; claim_words = lc; customer_words = lu }
 
   module _ (i : ℕ) (g : Gathering claims m k i claim customers) where
     pub one_more_gathered : i < k → (j : ℕ) → NumberIs claims m i j
         → Gathering claims m k (i + 1) (set claim i (get_or claims (j * 8 + 4) 0)) (set customers i (get_or claims (j * 8 + 3) 0))
     one_more_gathered h j nj =
         record {
-          claims = column_more claims m i j (get_or claims (j * 8 + 4) 0) (λ l. l.claim) claim nj.is refl (omega (arith, mk.few, g.claim_words_lem)) g.claims;
+          claims = column_more claims m i j (get_or claims (j * 8 + 4) 0) (λ l. l.claim) claim nj.is refl (omega (arith, mk.few, g.claim_words)) g.claims;
           contracts = column_more claims m i j (get_or claims (j * 8 + 3) 0) (λ l. l.customers) customers nj.is refl (omega (arith, mk.few, g.customer_words)) g.contracts;
           low = omega arith;
-          claim_words_lem = simp length-set g.claim_words_lem;
+          claim_words = simp length-set g.claim_words;
           customer_words = simp length-set g.customer_words;
         }
 
@@ -65,7 +65,7 @@ module _ (claims : List ℕ) (m k : ℕ) (mk : ManyIs claims m k) (claim custome
           claims = rw (← e) (g.claims ∙ ap (λ (j : ℕ). claims_of (trade_lines claims m j)) e2);
           contracts = rw (← e) (g.contracts ∙ ap (λ (j : ℕ). customers_of (trade_lines claims m j)) e2);
           many = mk.is;
-          claim_words_lem = g.claim_words_lem;
+          claim_words = g.claim_words;
           customer_words = g.customer_words;
         }
 
@@ -85,9 +85,9 @@ pub gathered_lines : (h : Header) (past : History) (claims : List ℕ) (lines m 
     → Gathered claims m claim customers k → LinesGathered h past m claim customers k
 gathered_lines h past claims lines m claim customers k hm held g =
     record {
-      many = g.many ∙ sym (trade_lines_long claims m (many_of claims m)) ∙ ap length (held.by_trade_lem m hm);
-      claims = g.claims ∙ ap claims_of (held.by_trade_lem m hm);
-      contracts = g.contracts ∙ ap customers_of (held.by_trade_lem m hm);
+      many = g.many ∙ sym (trade_lines_long claims m (many_of claims m)) ∙ ap length (held.by_trade m hm);
+      claims = g.claims ∙ ap claims_of (held.by_trade m hm);
+      contracts = g.contracts ∙ ap customers_of (held.by_trade m hm);
     }
 
 -- a Satisfaction Order of an accepted journal finds room under its trade
@@ -96,7 +96,7 @@ pub trade_has_a_line_left : {h : Header} {past : History} {e : Event} (claims : 
 trade_has_a_line_left {h} {past} {e} claims lines m held v few from to k names hm =
     let l : Line = line_of h (e ∷ past) past (count is_satisfaction past) e in
     let all = trade_has_at_most_two_lines_for_each_other v from to (e ∷ past) m in
-    let many : many_of claims m ≡ length (of_trade m (lines_of h past past)) = sym (trade_lines_long claims m (many_of claims m)) ∙ ap length (held.by_trade_lem m hm) in
+    let many : many_of claims m ≡ length (of_trade m (lines_of h past past)) = sym (trade_lines_long claims m (many_of claims m)) ∙ ap length (held.by_trade m hm) in
     let with_it : of_trade m (lines_of h (e ∷ past) (e ∷ past)) ≡ of_trade m (lines_of h past past) ++ (l ∷ []) =
     ap (of_trade m) (lines_new h e past k) ∙ of_trade_more m (lines_of h past past) l
     ∙ sym (in_its_trade h (e ∷ past) past (count is_satisfaction past) e m (of_trade m (lines_of h past past)) (of_trade m (lines_of h past past) ++ (l ∷ [])) refl (eq-eqb (field e 0) m names)) in

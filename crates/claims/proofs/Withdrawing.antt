@@ -150,7 +150,7 @@ module _ (h : Header) (past : History) (claims : List ℕ) (lines : ℕ) (held :
       record {
         numbered = held.numbered ∙ sym (count_skip is_satisfaction e past (ne_eqb e.kind satisfaction_kind no_satisfaction));
         lines = lines_same claims (again_of claims k) (e.time + 1) behind lines fi.few ∙ held.lines ∙ same;
-        by_trade_lem = λ m hm. trade_lines_same claims (again_of claims k) (e.time + 1) behind lines m hm fi ∙ held.by_trade_lem m hm ∙ ap (of_trade m) same;
+        by_trade = λ m hm. trade_lines_same claims (again_of claims k) (e.time + 1) behind lines m hm fi ∙ held.by_trade m hm ∙ ap (of_trade m) same;
         sums =
             λ m hm. sum_kept claims (again_of claims k) (e.time + 1) behind m hm ∙ held.sums m hm
             ∙ ap (λ (l : List Line). sum (claims_of (of_trade m l))) same;

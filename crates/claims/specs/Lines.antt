@@ -90,7 +90,7 @@ pub record LineTells (claims : List ℕ) (i : ℕ) (order : Happened) : Type 0 w
 pub record Lined (h : Header) (past : History) (claims : List ℕ) (many_lines : ℕ) : Type 0 where
   pub numbered : many_lines ≡ count is_satisfaction past
   pub lines : lines_from claims many_lines ≡ lines_of h past past
-  pub by_trade_lem : (m : ℕ) → m < most_trades → trade_lines claims m (many_of claims m) ≡ of_trade m (lines_of h past past)
+  pub by_trade : (m : ℕ) → m < most_trades → trade_lines claims m (many_of claims m) ≡ of_trade m (lines_of h past past)
   pub sums : (m : ℕ) → m < most_trades → sum_of claims m ≡ sum (claims_of (of_trade m (lines_of h past past)))
   pub told : (i : ℕ) → i < many_lines → LineTells claims i (nth is_satisfaction i past)
   -- "A claim's record must now remember its cancellation time"
@@ -142,8 +142,8 @@ pub record Cancellable (claims : List ℕ) (k : ℕ) : Type 0 where
 -- the table without the claim of line k, in its row and in its trade's sum, and with the reason that gives way to 14
 unfoldable pub cleared_in : List ℕ → ℕ → List ℕ
 cleared_in claims k =
-    let sum_word_lem : ℕ = sum_at (get_or claims (k * 8 + 0) 0) in
-    set (set (set claims sum_word_lem (get_or claims sum_word_lem 0 - get_or claims (k * 8 + 4) 0)) (k * 8 + 2) (named (get_or claims (k * 8 + 2) 0))) (k * 8 + 4) 0
+    let sum_word : ℕ = sum_at (get_or claims (k * 8 + 0) 0) in
+    set (set (set claims sum_word (get_or claims sum_word 0 - get_or claims (k * 8 + 4) 0)) (k * 8 + 2) (named (get_or claims (k * 8 + 2) 0))) (k * 8 + 4) 0
 
 -- the table after line k was cancelled at the time `now`
 unfoldable pub cancelled_in : List ℕ → ℕ → ℕ → ℕ → List ℕ
@@ -207,7 +207,7 @@ pub record Gathering (table : List ℕ) (m k i : ℕ) (claim customers : List �
   pub claims : take i claim ≡ claims_of (trade_lines table m i)
   pub contracts : take i customers ≡ customers_of (trade_lines table m i)
   pub low : i ≤ k
-  pub claim_words_lem : length claim ≡ most_trade_lines
+  pub claim_words : length claim ≡ most_trade_lines
   pub customer_words : length customers ≡ most_trade_lines
 
 pub record Gathered (table : List ℕ) (m : ℕ) (claim customers : List ℕ) (k : ℕ) : Type 0 where
@@ -215,7 +215,7 @@ pub record Gathered (table : List ℕ) (m : ℕ) (claim customers : List ℕ) (k
   pub claims : take k claim ≡ claims_of (trade_lines table m (many_of table m))
   pub contracts : take k customers ≡ customers_of (trade_lines table m (many_of table m))
   pub many : k ≡ many_of table m
-  pub claim_words_lem : length claim ≡ most_trade_lines
+  pub claim_words : length claim ≡ most_trade_lines
   pub customer_words : length customers ≡ most_trade_lines
 
 pub record DueIs (claims trades : List ℕ) (m r : ℕ) : Type 0 where

@@ -22,7 +22,7 @@ pub record Lined (ls : List Line) (claim customers : List ℕ) (k : ℕ) : Type 
   pub claims : take k claim ≡ claims_of ls
   pub customer_contracts : take k customers ≡ customers_of ls
   pub sound : (l : Line) → Memᴰ l ls → Sound l
-  pub claim_words_lem : length claim ≡ most_trade_lines
+  pub claim_words : length claim ≡ most_trade_lines
   pub customer_words : length customers ≡ most_trade_lines
 
 -- these lines, filled somehow

@@ -49,9 +49,9 @@ moved : (past past2 : History) (quotes quotes2 : List ℕ)
 moved past past2 quotes quotes2 column same held =
     record {
       bid = column 2 (λ k. k.bid) (omega arith) (λ e. refl) held.bid;
-      bid_customers_lem = column 4 (λ k. k.bid_customers) (omega arith) (λ e. refl) held.bid_customers_lem;
+      bid_customers = column 4 (λ k. k.bid_customers) (omega arith) (λ e. refl) held.bid_customers;
       offer = column 5 (λ k. k.offer) (omega arith) (λ e. refl) held.offer;
-      offer_customers_lem = column 7 (λ k. k.offer_customers) (omega arith) (λ e. refl) held.offer_customers_lem;
+      offer_customers = column 7 (λ k. k.offer_customers) (omega arith) (λ e. refl) held.offer_customers;
       long = same ∙ held.long;
     }
 
@@ -85,11 +85,11 @@ record_placed exchanges home r ok few =
             exchange = record { from_one = g.exchange.from_one; to_n = omega (arith, g.exchange.to_n) };
             series = g.series;
             bid = g.bid;
-            bid_size_lem = g.bid_size_lem;
-            bid_customers_lem = g.bid_customers_lem;
+            bid_size = g.bid_size;
+            bid_customers = g.bid_customers;
             offer = g.offer;
-            offer_size_lem = g.offer_size_lem;
-            offer_customers_lem = g.offer_customers_lem;
+            offer_size = g.offer_size;
+            offer_customers = g.offer_customers;
           };
       status = λ k. let g = ok.status k in
           record {
@@ -121,9 +121,9 @@ unfolding standing no_quote
 quotes_none =
     record {
       bid = λ y series hy hs. nothing y series 2 hy hs (omega arith);
-      bid_customers_lem = λ y series hy hs. nothing y series 4 hy hs (omega arith);
+      bid_customers = λ y series hy hs. nothing y series 4 hy hs (omega arith);
       offer = λ y series hy hs. nothing y series 5 hy hs (omega arith);
-      offer_customers_lem = λ y series hy hs. nothing y series 7 hy hs (omega arith);
+      offer_customers = λ y series hy hs. nothing y series 7 hy hs (omega arith);
       long = length-replicate {A = ℕ} quote_words 0;
     }
   where

@@ -19,11 +19,11 @@ quote_words = most_exchanges * many_series * 8
 pub record Quoted (past : History) (quotes : List ℕ) : Type 0 where
   pub bid : (y series : ℕ) → y < most_exchanges → series < many_series
       → get_or quotes ((y * many_series + series) * 8 + 2) 0 ≡ (standing (y + 1) series past).bid
-  pub bid_customers_lem : (y series : ℕ) → y < most_exchanges → series < many_series
+  pub bid_customers : (y series : ℕ) → y < most_exchanges → series < many_series
       → get_or quotes ((y * many_series + series) * 8 + 4) 0 ≡ (standing (y + 1) series past).bid_customers
   pub offer : (y series : ℕ) → y < most_exchanges → series < many_series
       → get_or quotes ((y * many_series + series) * 8 + 5) 0 ≡ (standing (y + 1) series past).offer
-  pub offer_customers_lem : (y series : ℕ) → y < most_exchanges → series < many_series
+  pub offer_customers : (y series : ℕ) → y < most_exchanges → series < many_series
       → get_or quotes ((y * many_series + series) * 8 + 7) 0 ≡ (standing (y + 1) series past).offer_customers
   pub long : length quotes ≡ quote_words
 

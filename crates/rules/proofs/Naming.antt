@@ -222,9 +222,9 @@ after_naming_of_its_trade : (h : Header) (x : Event) (past : History) (l : Line)
 after_naming_of_its_trade h x past l = by_test (names_in_time h l.number (satisfaction_at l.number past) x) (λ t. rw t) (λ t. rw t)
 
 -- a journal, and the same with such a record behind it
-module _ (h : Header) (past : History) (x : Event) (is_naming : is_naming x ≡ true) where
+module _ (h : Header) (past : History) (x : Event) (comes : is_naming x ≡ true) where
   another_kind : (n : ℕ) → (n ≡ naming_kind → ⊥) → (x.kind == n) ≡ false
-  another_kind n ne = ne_eqb x.kind n (λ q. ne (sym q ∙ eqb-true x.kind naming_kind is_naming))
+  another_kind n ne = ne_eqb x.kind n (λ q. ne (sym q ∙ eqb-true x.kind naming_kind comes))
 
   pub naming_moves_lines : lines (record { header = h; history = x ∷ past }) ≡ map (after_naming h x past) (lines (record { header = h; history = past }))
   unfolding lines lines_of

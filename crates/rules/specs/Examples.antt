@@ -103,7 +103,7 @@ ninth before = bids 2 110 30 ∷ (4 ∷ 0 ∷ 1 ∷ 2 ∷ 0 ∷ 2 ∷ 110 ∷ 5 
 abbrev pub tenth : ℕ → List (List ℕ)
 tenth bid = (1 ∷ 0 ∷ 2 ∷ 0 ∷ 0 ∷ 0 ∷ 0 ∷ 120 ∷ 5 ∷ 0 ∷ []) ∷ bids 1 bid 5 ∷ []
 
--- "300 is `Ac 02`; `80 00` is refused."
+-- "300 is `AC 02`; `80 00` is refused."
 abbrev pub read_as : Answer Read → List ℕ
 read_as (refused n p) = n ∷ p ∷ []
 read_as (ok r) = r.value ∷ []

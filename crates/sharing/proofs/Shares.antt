@@ -34,7 +34,7 @@ module _ (claim customers fill : List ℕ) (k : ℕ) (t : Turn) (ss : List Share
         let fm = fill_at ss claim customers fill k g m l.here in
         let cm = claim_at_lem ss claim customers fill k g m l.here in
         let sm = customers_at ss claim customers fill k g m l.here in
-        let v : t.fill ≡ (share_at ss m).filled + 1 = l.one_more_lem ∙ ap (λ (x : ℕ). x + 1) fm in
+        let v : t.fill ≡ (share_at ss m).filled + 1 = l.one_more ∙ ap (λ (x : ℕ). x + 1) fm in
         let w : t.customers ≡ (share_at ss m).line.customers = l.own ∙ sm in
         rw v
         (round_gives ss m (omega (arith, l.here)) (rw (← fm, ← cm) l.unfilled)

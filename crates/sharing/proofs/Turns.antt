@@ -58,7 +58,7 @@ module _ (claim customers fill : List ℕ) (k : ℕ) where
         least (record {
           here = omega (arith, l.here);
           unfilled = l.unfilled;
-          one_more_lem = l.one_more_lem;
+          one_more = l.one_more;
           own = l.own;
           least = below_more (λ j. at fill j < at claim j → t.fill * at customers j ≤ (at fill j + 1) * t.customers) i l.least (λ u. absurd (omega arith));
           earliest = l.earliest;
@@ -69,7 +69,7 @@ module _ (claim customers fill : List ℕ) (k : ℕ) where
         record {
           here = omega (arith, l.here);
           unfilled = l.unfilled;
-          one_more_lem = l.one_more_lem;
+          one_more = l.one_more;
           own = l.own;
           least = below_more (λ j. at fill j < at claim j → t.fill * at customers j ≤ (at fill j + 1) * t.customers) i l.least (λ v. h);
           earliest = l.earliest;
@@ -86,7 +86,7 @@ module _ (claim customers fill : List ℕ) (k : ℕ) where
         record {
           here = omega arith;
           unfilled = u;
-          one_more_lem = refl;
+          one_more = refl;
           own = refl;
           least = below_more (λ j. at fill j < at claim j → (at fill i + 1) * at customers j ≤ (at fill j + 1) * at customers i) i (λ j h v. le_of_lt (f j h v)) (λ v. omega arith);
           earliest = f;

@@ -20,7 +20,7 @@ sooner_of best line fill claim customers =
 pub record Least (claim customers fill : List ℕ) (seen : ℕ) (t : Turn) : Type 0 where
   pub here : t.line < seen
   pub unfilled : at fill t.line < at claim t.line
-  pub one_more_lem : t.fill ≡ at fill t.line + 1
+  pub one_more : t.fill ≡ at fill t.line + 1
   pub own : t.customers ≡ at customers t.line
   pub least : (i : ℕ) → i < seen → at fill i < at claim i → t.fill * at customers i ≤ (at fill i + 1) * t.customers
   pub earliest : (i : ℕ) → i < t.line → at fill i < at claim i → t.fill * at customers i < (at fill i + 1) * t.customers

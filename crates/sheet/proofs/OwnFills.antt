@@ -84,7 +84,7 @@ module _ (j : Journal) (trades claims : List ℕ) (traded n : ℕ) (b : Books j 
   module _ (m : ℕ) (hm : m < most_trades) where
     by_trade_lem : trade_lines claims m (many_of claims m) ≡ of_trade m (lines j)
     unfolding lines
-    by_trade_lem = b.lined.by_trade_lem m hm
+    by_trade_lem = b.lined.by_trade m hm
 
     many_lines : many_of claims m ≡ length (of_trade m (lines j))
     many_lines = sym (trade_lines_long claims m (many_of claims m)) ∙ ap length by_trade_lem
@@ -114,7 +114,7 @@ module _ (j : Journal) (trades claims : List ℕ) (traded n : ℕ) (b : Books j 
           claims = ls.claims;
           customer_contracts = ls.contracts;
           sound = λ l mem. known_line_sound j.header j.history l (known_in_books l (unfold of_trade in keep_sub _ (lines j) l mem));
-          claim_words_lem = g.claim_words_lem;
+          claim_words = g.claim_words;
           customer_words = g.customer_words;
         }
 

@@ -69,7 +69,7 @@ exchange_kept quotes statuses orders sent y series price now k side p c ex u hy 
           λ past qs ss os i hi.
           let a : side ≡ through (standing (y + 1) series past) price = rw (← qs.bid y series hy hs, ← qs.offer y series hy hs, ← z) es in
           let row : (side ∷ p ∷ c ∷ get_or statuses y 0 ∷ ex ∷ u ∷ []) ≡ snap past y series price now =
-          rw (ep, ec, eex.so past os, eu, z, qs.bid y series hy hs, qs.offer y series hy hs, qs.bid_customers_lem y series hy hs, qs.offer_customers_lem y series hy hs, ss.status y hy, a) in
+          rw (ep, ec, eex.so past os, eu, z, qs.bid y series hy hs, qs.offer y series hy hs, qs.bid_customers y series hy hs, qs.offer_customers y series hy hs, ss.status y hy, a) in
           first_six side p c (get_or statuses y 0) ex u i hi ∙ ap (λ (l : List ℕ). get_or l i 0) row;
     }
 
