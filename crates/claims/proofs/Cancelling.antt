@@ -277,7 +277,7 @@ module _ (h : Header) (past : History) (claims : List ℕ) (lines : ℕ) (held :
         record {
           numbered = held.numbered ∙ sym (count_skip is_satisfaction e past (ne_eqb e.kind satisfaction_kind no_satisfaction));
           lines = lines_cleared claims k able lines fi.few ∙ ap (map (clearing k)) held.lines ∙ sym lines_in_time;
-          by_trade_lem =
+          by_trade =
               λ m hm. trade_lines_cleared claims k able lines m hm fi ∙ ap (map (clearing k)) (held.by_trade m hm)
               ∙ sym (of_trade_cleared k m (lines_of h past past)) ∙ ap (of_trade m) (sym lines_in_time);
           sums =
