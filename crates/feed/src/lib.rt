@@ -1,7 +1,8 @@
 // What the programs share: lent buffers filled from standard input or a named file, answers sent, refusals said. An answer goes to standard output, whatever is no answer to standard error.
 #![tactic(auto)]
 
-ghost use Rattle.std.specs.Prelude.{◌≡◌, length, IfOk};
+ghost use Rattle.std.specs.Prelude.{◌<◌, length, take, IfOk};
+ghost use Rattle.std.specs.Io.KnownBytes.{Consumes, IsAtEnd};
 ghost use Rattle.feed.specs.Filled.{Filled};
 ghost use Rattle.feed.specs.declared.Input.TheVariants.{Taken};
 
@@ -42,9 +43,11 @@ impl Room {
     pub const SHEET_INPUT: usize = 65537;
 }
 
-// Reads until buf is full or the input ends. After an error some of buf may have been written over.
+// Reads until buf is full or the input ends. After an error some of buf may have been written over, and what was read so far is gone.
 pub fn take<R: Read>(reader: &mut R, buf: &mut [u8]) -> io::Result<usize>
-    ensures { IfOk result (λ n. Filled (length buf.new) (Taken n)) }
+    ensures fills { IfOk result (λ n. Filled (length buf.new) (Taken n)) }
+    ensures bytes { IfOk result (λ n. Consumes (R.remaining reader.old) (R.remaining reader.new) (take n buf.new)) }
+    ensures end { IfOk result (λ n. n < length buf.new → IsAtEnd (R.remaining reader.new)) }
 {
     let mut done: usize = 0;
     while done < buf.len() {
