@@ -5,8 +5,10 @@ flag='' proving=''
 
 program() { echo "$here/crates/$1/out/$1"; }
 
-# rt links only what it has proved. Once the program is whole `rt run` leaves a stamp beside it, and `rt ci` what the program wrote.
-is_built() { [ -x "$(program "$1")" ] && { [ -e "$(program "$1").stamp" ] || [ -e "$here/crates/$1/out/stdout" ]; }; }
+# rt links only what it has proved. Once the program is whole `rt run` leaves a stamp beside it, and `rt ci` what the program wrote,
+# which must be what its crate says.
+is_built() { [ -x "$(program "$1")" ] && { [ -e "$(program "$1").stamp" ] || answers_so "$here/crates/$1"; }; }
+answers_so() { cmp -s "$1/out/stdout" "$1/stdout"; }
 
 # The kit's rt.
 find_rt() {

@@ -487,12 +487,19 @@ rm "$bare/crates/day/out/day.stamp"
 from_copy one day "$d"; ended one 0; wrote_file examples/day-d.list; ran 'day day'
 
 what='a program that rt ci has run'
-mv "$bare/crates/day/out/day.stamp" "$bare/crates/day/out/stdout"
+rm "$bare/crates/day/out/day.stamp"
+cp crates/day/stdout "$bare/crates/day/"
+cp crates/day/stdout "$bare/crates/day/out/"
 from_copy one day "$d"; ended one 0; wrote_file examples/day-d.list; said_nothing; ran 'day day'
 
-what='a program that is gone, where rt ci had run it'
-rm "$bare/crates/day/out/day"
+what='a program that wrote something else when rt ci ran it'
+echo other >"$bare/crates/day/out/stdout"
 from_copy one day "$d"; ended one 0; wrote_file examples/day-d.list; said "$starting"; ran 'day day day'
+
+what='a program that is gone, where rt ci had run it'
+rm "$bare/crates/day/out/day" "$bare/crates/day/out/day.stamp"
+cp crates/day/stdout "$bare/crates/day/out/"
+from_copy one day "$d"; ended one 0; wrote_file examples/day-d.list; said "$starting"; ran 'day day day day'
 [ ! -e "$bare/crates/day/out/stdout" ] || fail 'left what the earlier program wrote'
 
 what='a build with no kit'
