@@ -1,15 +1,15 @@
 #!/bin/sh
 # What a page names is there, under that name:
 # - a definition or law, `File.name`, `specs/File.name` or `proofs/File.name`; a crate other than rules comes first, as in `sheet/specs/File.name`;
-# - an item of a crate, `crate::name`: a function, enum, struct or constant that belongs to no type; `crate::Type::name`: a function or constant
-#   of that type, or a variant of that enum; with the file's name between, if it is not the crate's first. The crate is of this repository or the kit;
+# - an item of a crate, `crate::name`: a function, enum, struct, trait or constant that belongs to no type; `crate::Type::name`: a function or
+#   constant of that type or trait, or of a trait of the same file that the type has, or a variant of that enum; with the file's name between, if it is not the crate's first. The crate is of this repository or the kit;
 # - a function that C calls, `hasurenta_name`;
 # - a must-fail edit, `crate/name`; any other `a/b`, a link and `PAGE.md` are paths, from the root, docs/, crates/rules or the page; NAME is any name.
 # Items are looked for everywhere on a page, in blocks of code too; the rest in backticks.
 set -eu
 cd "$(dirname "$0")/.."
-# docs/PORT.md names what was beside what is.
-pages=$(ls README.md docs/*.md */README.md tests/vectors/README.md | grep -v '^docs/PORT\.md$')
+# docs/PORT.md and docs/DESIGN-PASS.md name what was beside what is.
+pages=$(ls README.md docs/*.md */README.md tests/vectors/README.md | grep -v -e '^docs/PORT\.md$' -e '^docs/DESIGN-PASS\.md$')
 kit=$(dirname "$(rt doc)")
 found=$(mktemp -d)
 trap 'rm -rf "$found"' EXIT
@@ -41,12 +41,21 @@ awk '
         if (line ~ /^extern "C" fn /) { name = word[4]; word[1] = "fn" }
         if (line ~ /^(safe|unsafe) fn /) { name = word[3]; word[1] = "fn" }
         if (line ~ /^const fn /) name = word[3]
-        item = word[1] ~ /^(fn|const|enum|struct|type|static)$/
+        item = word[1] ~ /^(fn|const|enum|struct|trait|type|static)$/
         if (!indent && item) there(name)
-        if (!indent && word[1] ~ /^(enum|struct|impl)$/ && /\{$/) {
+        if (!indent && line ~ /^impl [A-Za-z_0-9]+ for /) {
+            methods = split(of_trait[crate name], method, " ")
+            for (i = 1; i <= methods; i++) there(word[4] "::" method[i])
+        }
+        if (!indent && word[1] ~ /^(enum|struct|trait|impl)$/ && /\{$/) {
             owner = word[1] == "impl" && line ~ /^impl</ ? substr(line, index(line, "> ") + 2) : name
+            if (word[1] == "impl" && line ~ / for /) owner = substr(line, index(line, " for ") + 5)
             sub(/[^A-Za-z_0-9].*/, "", owner)
             kind = word[1]
+        }
+        if (indent && kind == "trait" && item) {
+            there(owner "::" name)
+            of_trait[crate owner] = of_trait[crate owner] " " name
         }
         if (!indent && /^(unsafe )?extern "C" \{$/) owner = kind = "extern"
         if (indent && kind == "extern" && item) there(name)

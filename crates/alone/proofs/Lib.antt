@@ -3,3 +3,4 @@ pub mod Judging
 pub mod Reading
 pub mod Writing
 pub mod Settled
+pub mod Tests

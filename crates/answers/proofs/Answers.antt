@@ -12,61 +12,57 @@ use Rattle.rules.specs.Writing.{into, lent_after, write_day, write_sheet}
 use Rattle.rules.specs.SheetCheck.{check_sheet}
 use Rattle.number.specs.Writing.{leaves}
 use Rattle.text.specs.Lent.{as_answer, counted}
-use Rattle.text.specs.declared.Written.{Written}
-use Rattle.text.specs.declared.Written.TheVariants.{To, Refused}
+use Rattle.std.specs.Prelude.{Result, Ok, Err}
+use Rattle.rows.specs.Refusals.{number_of, refused_as}
+use Rattle.rows.specs.declared.Refusal.{Refusal}
+use Rattle.rows.specs.declared.Refused.{Refused}
 use Rattle.journal.specs.Entries.{left_by}
-use Rattle.journal.specs.declared.Rewritten.{Rewritten}
-use Rattle.journal.specs.declared.Rewritten.TheVariants.{Written as Wrote, Unwritten}
 use Rattle.claims.specs.Lines.{Filing}
 use Rattle.list.specs.Listing.{most_rows, list_words}
 use Rattle.printed.specs.Printing.{Prints}
 use Rattle.walk.proofs.Reaching.{journal_refused, journal_accepted}
 use Rattle.survey.specs.Survey.{OfTheDay, SurveyedAs}
 use Rattle.survey.specs.declared.Surveyed.{Surveyed}
-use Rattle.survey.specs.declared.Surveyed.TheVariants.{Whole, Stopped}
 use Rattle.sheet.specs.Tables.{OwnFills}
 use Rattle.sheet.specs.Written.{OwnWritten}
-use Rattle.said.specs.declared.Checked.{Checked}
-use Rattle.said.specs.declared.Checked.TheVariants.{Refused as Unfit}
 use Rattle.checker.specs.Check.{checked_as, CheckedAs}
 use Rattle.checker.proofs.Check.{journal_refused_first, whole_check}
 use Rattle.answers.specs.Answers.{answered_as, DayPrinted}
 
 -- ---- what a writer leaves
 
-module _ (w : Written) (n : ℕ) where
-  pub answered_written : w ≡ To n → Wrote n ≡ answered_as w
-  answered_written e = rw e
+-- "A writer's place is always 0"
+module _ (w : Result ℕ Refusal) where
+  pub answered_written : (n : ℕ) → w ≡ Ok n → Ok n ≡ answered_as w
+  answered_written n e = rw e
 
-  pub answered_refused : w ≡ Refused n → Unwritten n 0 ≡ answered_as w
-  answered_refused e = rw e
+  pub answered_refused : (n : Refusal) → w ≡ Err n → Err (record { refusal = n; place = 0 }) ≡ answered_as w
+  answered_refused n e = rw e
 
-pub ruleset answered_laws = (answered_written, answered_refused)
-
-left_is : (w : Written) (after : List ℕ) → left_by (answered_as w) after ≡ record { answer = as_answer w; bytes = after }
-left_is (To n) after = refl
-left_is (Refused n) after = refl
+left_is : (w : Result ℕ Refusal) (after : List ℕ) → left_by (answered_as w) after ≡ record { answer = as_answer w; bytes = after }
+left_is (Ok n) after = refl
+left_is (Err r) after = refl
 
 leaves_is : (x : Answer (List ℕ)) (before : List ℕ) → leaves x before ≡ record { answer = counted x; bytes = lent_after x before }
 unfolding leaves ◌>>=◌
 leaves_is (refused n p) before = refl
 leaves_is (ok bytes) before = refl
 
-written_left : (x : Answer (List ℕ)) (before after : List ℕ) (w : Written) → (as_answer w ≡ counted x) × (after ≡ lent_after x before)
+written_left : (x : Answer (List ℕ)) (before after : List ℕ) (w : Result ℕ Refusal) → (as_answer w ≡ counted x) × (after ≡ lent_after x before)
     → left_by (answered_as w) after ≡ leaves x before
 written_left x before after w is =
     left_is w after ∙ ap (λ (a : Answer ℕ). record { answer = a; bytes = after }) is.0
     ∙ ap (λ (b : List ℕ). record { answer = counted x; bytes = b }) is.1
     ∙ sym (leaves_is x before)
 
-refused_left : (x : Answer (List ℕ)) (n p : ℕ) (before : List ℕ) → x ≡ refused n p → left_by (Unwritten n p) before ≡ leaves x before
+refused_left : (x : Answer (List ℕ)) (q : Refused) (before : List ℕ) → x ≡ refused_as q → left_by (Err q) before ≡ leaves x before
 unfolding leaves lent_after
-refused_left x n p before e = rw e
+refused_left x q before e = rw e
 
 -- our own fills, and the list with them
 pub whole_printed : (claims trades : List ℕ) (traded lines : ℕ) (rows : List ℕ) (listed : ℕ) (fills : List ℕ)
-    → OwnFills claims trades traded lines (replicate most_satisfaction_orders 0) fills → (out out2 : List ℕ) (w : Written) → Prints rows listed claims fills lines out w out2
-    → (r : Rewritten) → r ≡ answered_as w → DayPrinted claims trades traded lines rows listed out r out2
+    → OwnFills claims trades traded lines (replicate most_satisfaction_orders 0) fills → (out out2 : List ℕ) (w : Result ℕ Refusal) → Prints rows listed claims fills lines out w out2
+    → (r : Result ℕ Refused) → r ≡ answered_as w → DayPrinted claims trades traded lines rows listed out r out2
 whole_printed claims trades traded lines rows listed fills own out out2 w wrote r er =
     record {
       so = λ d books listing.
@@ -77,54 +73,46 @@ whole_printed claims trades traded lines rows listed fills own out out2 w wrote 
 
 -- ---- a journal that is refused
 
-module _ (s lent trades shown claims list : List ℕ) (v : Surveyed) (sv : SurveyedAs s lent trades shown claims list v) where
-  module _ (n p : ℕ) (e : v ≡ Stopped n p) (out : List ℕ) where
-    pub day_refused : left_by (Unwritten n p) out ≡ leaves (write_day s (length out)) out
+module _ (s lent trades shown claims list : List ℕ) (v : Result Surveyed Refused) (sv : SurveyedAs s lent trades shown claims list v) where
+  module _ (q : Refused) (e : v ≡ Err q) (out : List ℕ) where
+    pub day_refused : left_by (Err q) out ≡ leaves (write_day s (length out)) out
     unfolding write_day ◌>>=◌
-    day_refused = refused_left (write_day s (length out)) n p out (rw (sv.stopped n p e))
+    day_refused = refused_left (write_day s (length out)) q out (rw (sv.stopped q e))
 
-    pub sheet_refused : left_by (Unwritten n p) out ≡ leaves (write_sheet s (length out)) out
+    pub sheet_refused : left_by (Err q) out ≡ leaves (write_sheet s (length out)) out
     unfolding write_sheet ◌>>=◌
-    sheet_refused = refused_left (write_sheet s (length out)) n p out (rw (journal_refused s n p (sv.stopped n p e)))
+    sheet_refused = refused_left (write_sheet s (length out)) q out (rw (journal_refused s (number_of q.refusal) q.place (sv.stopped q e)))
 
-    pub check_refused : checked_as (Unfit n p) ≡ check_sheet s out
-    check_refused = sym (journal_refused_first s out n p (journal_refused s n p (sv.stopped n p e)))
+    pub check_refused : checked_as (Err q) ≡ check_sheet s out
+    check_refused = sym (journal_refused_first s out (number_of q.refusal) q.place (journal_refused s (number_of q.refusal) q.place (sv.stopped q e)))
 
   -- ---- a journal that is accepted
 
-  module _ (traded lines listed : ℕ) (e : v ≡ Whole traded lines listed) where
-    told : OfTheDay s trades shown claims list traded lines listed
-    told = sv.whole traded lines listed e
+  module _ (w : Surveyed) (e : v ≡ Ok w) where
+    told : OfTheDay s trades shown claims list w.trades w.lines w.listed
+    told = sv.whole w e
 
     accepted : journal s ≡ ok (journal_of told.day_is)
     accepted = journal_accepted s told.day_is told.accepted
 
-    pub few_trades : traded ≤ most_trades
-    few_trades = told.few_trades
+    -- what the steps over the tables ask
+    pub tables_known : (w.trades ≤ most_trades) × Filing claims w.lines
+    tables_known = (told.few_trades, told.books.filing)
 
-    pub lines_filed : Filing claims lines
-    lines_filed = told.books.filing
-
-    pub few_lines : lines ≤ most_satisfaction_orders
-    few_lines = told.books.filing.few
-
-    pub sheet_written : (out out2 : List ℕ) (w : Written) → OwnWritten claims trades traded lines out w out2 → (r : Rewritten) → r ≡ answered_as w
+    pub sheet_written : (out out2 : List ℕ) (n : Result ℕ Refusal) → OwnWritten claims trades w.trades w.lines out n out2 → (r : Result ℕ Refused) → r ≡ answered_as n
         → left_by r out2 ≡ leaves (write_sheet s (length out)) out
     unfolding write_sheet ◌>>=◌
-    sheet_written out out2 w wrote r er =
-        rw (er, accepted) (written_left (into (length out) (own_sheet (journal_of told.day_is))) out out2 w (wrote.so (journal_of told.day_is) told.books))
+    sheet_written out out2 n wrote r er =
+        rw (er, accepted) (written_left (into (length out) (own_sheet (journal_of told.day_is))) out out2 n (wrote.so (journal_of told.day_is) told.books))
 
-    pub sheet_checked : (sheet : List ℕ) (r : Checked) → CheckedAs claims trades traded lines sheet r → checked_as r ≡ check_sheet s sheet
-    sheet_checked sheet r c = whole_check s sheet (journal_of told.day_is) accepted claims trades traded lines told.books r c
+    pub sheet_checked : (sheet : List ℕ) (r : Result (Unit {0}) Refused) → CheckedAs claims trades w.trades w.lines sheet r → checked_as r ≡ check_sheet s sheet
+    sheet_checked sheet r c = whole_check s sheet (journal_of told.day_is) accepted claims trades w.trades w.lines told.books r c
 
     module _ (full : length lent ≡ list_words) where
-      pub full_rows : length list ≡ list_words
-      full_rows = sv.long ∙ full
+      pub rows_known : (w.listed ≤ most_rows) × (length list ≡ list_words) × (w.lines ≤ most_satisfaction_orders)
+      rows_known = (told.few_listed (sv.long ∙ full), sv.long ∙ full, told.books.filing.few)
 
-      pub few_rows : listed ≤ most_rows
-      few_rows = told.few_listed full_rows
-
-      pub day_printed : (out out2 : List ℕ) (r : Rewritten) → DayPrinted claims trades traded lines list listed out r out2
+      pub day_printed : (out out2 : List ℕ) (r : Result ℕ Refused) → DayPrinted claims trades w.trades w.lines list w.listed out r out2
           → left_by r out2 ≡ leaves (write_day s (length out)) out
       unfolding write_day ◌>>=◌
       day_printed out out2 r printed = rw told.accepted (printed.so told.day_is told.books (told.listing (sv.long ∙ full)))
@@ -132,17 +120,4 @@ module _ (s lent trades shown claims list : List ℕ) (v : Surveyed) (sv : Surve
 pub full_list : length {A = ℕ} (replicate list_words 0) ≡ list_words
 full_list = length-replicate {A = ℕ} list_words 0
 
-pub ruleset answer_laws = (
-  day_refused,
-  sheet_refused,
-  check_refused,
-  few_trades,
-  lines_filed,
-  few_lines,
-  few_rows,
-  sheet_written,
-  sheet_checked,
-  full_rows,
-  day_printed,
-  full_list,
-)
+pub ruleset refused_laws = (day_refused, sheet_refused, check_refused)

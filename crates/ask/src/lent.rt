@@ -1,6 +1,4 @@
-// Lent memory: what it holds before a call, and what of it is kept after.
-use crate::words::put_word;
-
+// Lent memory: what it holds before a call.
 #[derive(Drop)]
 pub struct Lent;
 
@@ -14,36 +12,15 @@ impl Lent {
     // One more than the reader of a record writes at most, and one more than there are day totals: the last must be kept.
     pub const WORDS: usize = desk::Handed::RECORD_WORDS_MOST + 1;
 
-    pub const LONGS: usize = 5;
-}
+    pub const LONGS: usize = desk::Handed::TOTALS + 1;
 
-pub fn lend(out: &mut [u8]) {
-    for byte in out.iter_mut() {
-        *byte = Lent::BYTE;
-    }
-}
-
-// Whether every lent byte from `at` on is as it was.
-pub fn kept(out: &[u8], at: usize) -> bool {
-    for i in at..out.len() {
-        if out[i] != Lent::BYTE {
-            return false;
+    // Whether every byte is as it was lent. A loop, since in a build with checks `all` took five times as long.
+    pub fn kept(out: &[u8]) -> bool {
+        for byte in out {
+            if *byte != Lent::BYTE {
+                return false;
+            }
         }
-    }
-    true
-}
-
-// Lent words as bytes, lowest first.
-pub fn put_words(words: &[u32; Lent::WORDS], out: &mut [u8]) {
-    for i in 0..Lent::WORDS {
-        put_word(out, 4 * i, rows::wide(words[i]));
-    }
-}
-
-// The same of words of eight bytes.
-pub fn put_longs(longs: &[u64; Lent::LONGS], out: &mut [u8]) {
-    for i in 0..Lent::LONGS {
-        put_word(out, 8 * i, longs[i] % 4294967296);
-        put_word(out, 8 * i + 4, longs[i] / 4294967296);
+        true
     }
 }

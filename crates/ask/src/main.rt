@@ -1,43 +1,22 @@
 // Questions on standard input, answers on standard output, until the input ends or a question cannot be read whole.
 #![tactic(auto)]
 
-ghost use Rattle.std.specs.Prelude.{◌<◌, ◌≤◌};
-
 use desk::Handed;
 use lent::Lent;
+use op::Op;
 use rows::Code;
 use std::io::Read;
 
 mod lent;
-mod words;
+mod op;
 
-// op 1 byte, cap, na and nb 4 bytes each; then na bytes A and nb bytes B.
+// op 1 byte, cap, na and nb 4 bytes each, the lowest first; then na bytes A and nb bytes B.
 #[derive(Drop)]
 struct Question;
 
 impl Question {
-    const HEAD: usize = 13;
-
     // A larger cap, na or nb ends the run.
     const MOST: usize = 131072;
-
-    const JOURNAL: u8 = 1;
-
-    const DAY: u8 = 2;
-
-    const SHEET: u8 = 3;
-
-    const CHECK: u8 = 4;
-
-    const TOTALS: u8 = 5;
-
-    const WRITE_HEADER: u8 = 6;
-
-    const WRITE_RECORD: u8 = 7;
-
-    const READ_RECORD: u8 = 8;
-
-    const REWRITE: u8 = 9;
 }
 
 // no and place 4 bytes each, kept 1 byte, n 4 bytes; then n bytes.
@@ -50,224 +29,116 @@ impl Reply {
     const UNKNOWN_OP: u64 = 99 * Code::UNIT;
 }
 
-// What an entry answers as one number: a refusal's number × 2^32 + its place, or how much was written.
-#[derive(Clone, Copy)]
-struct Coded {
-    refusal: u64,
-    low: u64,
+// What an entry answers as one number: how much was written, or a refusal's number × 2^32 + its place.
+fn answered(coded: u64) -> Result<u64, (u64, u64)> {
+    let low = coded % Code::UNIT;
+    match coded / Code::UNIT {
+        0 => Ok(low),
+        no => Err((no, low)),
+    }
 }
 
-impl Coded {
-    fn of(coded: u64) -> Coded
-        ensures { result.low < 4294967296 }
-    {
-        Coded {
-            refusal: coded / Code::UNIT,
-            low: coded % Code::UNIT,
+// Sends what the entry answered, and what it says it wrote, in pieces of so many bytes.
+fn say(rt: &(impl Print + Eprint), coded: u64, piece: u64, out: &[u8]) -> Option<()> {
+    let (no, place, n) = match answered(coded) {
+        Ok(pieces) => {
+            let bytes = pieces.saturating_mul(piece);
+            (0, 0, bytes.min(out.len() as u64) as usize)
         }
-    }
-}
-
-fn least(a: u64, b: usize) -> usize
-    ensures { result ≤ b }
-{
-    if a < b as u64 { a as usize } else { b }
-}
-
-fn send_head(rt: &(impl Print + Eprint), head: &[u8; Reply::HEAD]) -> bool {
-    feed::send(rt, head, Reply::HEAD)
-}
-
-// Sends what the entry answered, and the bytes that it says it wrote.
-fn say(rt: &(impl Print + Eprint), coded: u64, out: &[u8]) -> bool {
-    let answer = Coded::of(coded);
-    let mut place = answer.low;
-    let mut n: usize = 0;
-    if answer.refusal == 0 {
-        place = 0;
-        n = least(answer.low, out.len());
-    }
+        Err((no, place)) => (no, place, 0),
+    };
+    let (written, rest) = out.split_at(n);
     let mut head = [0u8; Reply::HEAD];
-    words::put_word(&mut head, 0, answer.refusal);
-    words::put_word(&mut head, 4, place);
-    head[8] = lent::kept(out, n) as u8;
-    words::put_word(&mut head, 9, n as u64);
-    if !send_head(rt, &head) {
-        return false;
-    }
-    feed::send(rt, out, n)
+    head[..4].copy_from_slice(&no.to_le_bytes()[..4]);
+    head[4..8].copy_from_slice(&place.to_le_bytes()[..4]);
+    head[8] = u8::from(Lent::kept(rest));
+    head[9..].copy_from_slice(&n.to_le_bytes()[..4]);
+    feed::send(rt, &head)?;
+    feed::send(rt, written)
 }
 
-// An entry's count of words, of eight bytes or of four, as a count of bytes.
-fn in_bytes(coded: u64, long: bool) -> u64 {
-    let answer = Coded::of(coded);
-    if answer.refusal != 0 {
-        return coded;
-    }
-    if long { answer.low * 8 } else { answer.low * 4 }
-}
-
-fn put_totals(a: &[u8], sums: &mut [u64; Lent::LONGS]) -> u64 {
-    desk::hasurenta_totals(a, sums)
-}
-
-fn totals(rt: &(impl Print + Eprint), a: &[u8]) -> bool {
+fn totals(rt: &(impl Print + Eprint), a: &[u8]) -> Option<()> {
     let mut sums = [Lent::LONG; Lent::LONGS];
-    let coded = put_totals(a, &mut sums);
-    let mut out = [0u8; 8 * Lent::LONGS];
-    lent::put_longs(&sums, &mut out);
-    say(rt, in_bytes(coded, true), &out)
+    let coded = desk::hasurenta_totals(a, &mut sums);
+    let out = sums.map(|sum| sum.to_le_bytes());
+    say(rt, coded, 8, out.as_flattened())
 }
 
-fn put_record(numbers: &[u32], b: &[u8], record: &mut [u32; Lent::WORDS]) -> u64 {
-    desk::hasurenta_read_record(numbers, b, record)
-}
-
-fn read_record(rt: &(impl Print + Eprint), numbers: &[u32], b: &[u8]) -> bool {
+fn read_record(rt: &(impl Print + Eprint), numbers: &[u32], b: &[u8]) -> Option<()> {
     let mut record = [Lent::WORD; Lent::WORDS];
-    let coded = put_record(numbers, b, &mut record);
-    let mut out = [0u8; 4 * Lent::WORDS];
-    lent::put_words(&record, &mut out);
-    say(rt, in_bytes(coded, false), &out)
+    let coded = desk::hasurenta_read_record(numbers, b, &mut record);
+    let out = record.map(|word| word.to_le_bytes());
+    say(rt, coded, 4, out.as_flattened())
 }
 
-// The entries that are given numbers. They refuse an A that is no row of words as they refuse no numbers.
-fn numbered(rt: &(impl Print + Eprint), op: u8, a: &[u8], b: &[u8], out: &mut [u8]) -> bool {
-    let mut row = [0u32; Handed::RECORD_MOST];
-    let n = words::numbers_of(a, &mut row);
-    of_row(rt, op, &row, n, b, out)
+// The numbers that A is; none where it is no row of words that an entry may take.
+fn numbers_of<'a>(a: &[u8], row: &'a mut [u32; Handed::RECORD_MOST]) -> &'a [u32] {
+    let (words, rest) = a.as_chunks::<4>();
+    let count = words.len();
+    if !rest.is_empty() || Handed::RECORD_MOST < count {
+        return &[];
+    }
+    for (number, word) in row.iter_mut().zip(words) {
+        *number = u32::from_le_bytes(*word);
+    }
+    &row[..count]
 }
 
-fn of_row(
+fn answer(
     rt: &(impl Print + Eprint),
-    op: u8,
-    row: &[u32; Handed::RECORD_MOST],
-    n: usize,
-    b: &[u8],
-    out: &mut [u8],
-) -> bool {
-    first_numbers(rt, op, row, n, b, out)
-}
-
-fn first_numbers(
-    rt: &(impl Print + Eprint),
-    op: u8,
-    row: &[u32],
-    n: usize,
-    b: &[u8],
-    out: &mut [u8],
-) -> bool {
-    if row.len() < n {
-        return false;
-    }
-    with_numbers(rt, op, &row[..n], b, out)
-}
-
-fn with_numbers(
-    rt: &(impl Print + Eprint),
-    op: u8,
-    numbers: &[u32],
-    b: &[u8],
-    out: &mut [u8],
-) -> bool {
-    if op == Question::READ_RECORD {
-        return read_record(rt, numbers, b);
-    }
-    if op == Question::WRITE_HEADER {
-        let coded = desk::hasurenta_write_header(numbers, out);
-        return say(rt, coded, out);
-    }
-    let coded = desk::hasurenta_write_record(numbers, out);
-    say(rt, coded, out)
-}
-
-// The entries that are given a journal and answer in bytes.
-fn entry(op: u8, a: &[u8], b: &[u8], out: &mut [u8]) -> u64 {
-    match op {
-        Question::JOURNAL => desk::hasurenta_journal(a),
-        Question::DAY => desk::hasurenta_day(a, out),
-        Question::SHEET => desk::hasurenta_sheet(a, out),
-        Question::CHECK => desk::hasurenta_check(a, b),
-        Question::REWRITE => desk::hasurenta_rewrite(a, out),
-        _ => Reply::UNKNOWN_OP,
-    }
-}
-
-fn answer(rt: &(impl Print + Eprint), op: u8, a: &[u8], b: &[u8], out: &mut [u8]) -> bool {
-    lent::lend(out);
-    match op {
-        Question::TOTALS => totals(rt, a),
-        Question::WRITE_HEADER..=Question::READ_RECORD => numbered(rt, op, a, b, out),
-        _ => {
-            let coded = entry(op, a, b, out);
-            say(rt, coded, out)
-        }
-    }
-}
-
-// Fills the first n bytes of buf, and says whether it could.
-fn filled<R: Read>(reader: &mut R, buf: &mut [u8], n: usize) -> bool {
-    if buf.len() < n {
-        return false;
-    }
-    match feed::take(reader, &mut buf[..n]) {
-        Ok(got) => got == n,
-        Err(_) => false,
-    }
-}
-
-fn filled_head<R: Read>(reader: &mut R, head: &mut [u8; Question::HEAD]) -> bool {
-    filled(reader, head, Question::HEAD)
-}
-
-fn size_at(head: &[u8; Question::HEAD], at: usize) -> usize {
-    words::word_at(head, at) as usize
-}
-
-fn asked(
-    rt: &(impl Print + Eprint),
-    op: u8,
+    number: u8,
     a: &[u8],
-    na: usize,
     b: &[u8],
-    nb: usize,
     out: &mut [u8],
-    cap: usize,
-) -> bool {
-    if a.len() < na {
-        return false;
+) -> Option<()> {
+    // by a loop, since `fill` takes longer, as `Lent::kept` says of `all`
+    for byte in out.iter_mut() {
+        *byte = Lent::BYTE;
     }
-    if b.len() < nb {
-        return false;
-    }
-    if out.len() < cap {
-        return false;
-    }
-    answer(rt, op, &a[..na], &b[..nb], &mut out[..cap])
+    let mut row = [0u32; Handed::RECORD_MOST];
+    let coded = match Op::try_from(number) {
+        Ok(Op::Journal) => desk::hasurenta_journal(a),
+        Ok(Op::Day) => desk::hasurenta_day(a, out),
+        Ok(Op::Sheet) => desk::hasurenta_sheet(a, out),
+        Ok(Op::Check) => desk::hasurenta_check(a, b),
+        Ok(Op::Totals) => return totals(rt, a),
+        Ok(Op::WriteHeader) => desk::hasurenta_write_header(numbers_of(a, &mut row), out),
+        Ok(Op::WriteRecord) => desk::hasurenta_write_record(numbers_of(a, &mut row), out),
+        Ok(Op::ReadRecord) => return read_record(rt, numbers_of(a, &mut row), b),
+        Ok(Op::Rewrite) => desk::hasurenta_rewrite(a, out),
+        Err(_) => Reply::UNKNOWN_OP,
+    };
+    say(rt, coded, 1, out)
 }
 
-// Reads one question whole and answers it; false where the run ends.
+fn fill<R: Read>(reader: &mut R, buf: &mut [u8]) -> Option<()> {
+    reader.read_exact(buf).ok()
+}
+
+fn size<R: Read>(reader: &mut R) -> Option<usize> {
+    let mut word = [0u8; 4];
+    fill(reader, &mut word)?;
+    Some(u32::from_le_bytes(word) as usize)
+}
+
+// Reads one question whole and answers it; nothing where the run ends.
 fn turn<R: Read>(
     rt: &(impl Print + Eprint),
     reader: &mut R,
     a: &mut [u8; Question::MOST],
     b: &mut [u8; Question::MOST],
     out: &mut [u8; Question::MOST],
-) -> bool {
-    let mut head = [0u8; Question::HEAD];
-    if !filled_head(reader, &mut head) {
-        return false;
-    }
-    let cap = size_at(&head, 1);
-    let na = size_at(&head, 5);
-    let nb = size_at(&head, 9);
-    if !filled(reader, a, na) {
-        return false;
-    }
-    if !filled(reader, b, nb) {
-        return false;
-    }
-    asked(rt, head[0], a, na, b, nb, out, cap)
+) -> Option<()> {
+    let mut op = [0u8; 1];
+    fill(reader, &mut op)?;
+    let cap = size(reader)?;
+    let na = size(reader)?;
+    let nb = size(reader)?;
+    let a = a.get_mut(..na)?;
+    fill(reader, a)?;
+    let b = b.get_mut(..nb)?;
+    fill(reader, b)?;
+    answer(rt, op[0], a, b, out.get_mut(..cap)?)
 }
 
 // Nothing says that the input ends, so the turns are counted up to a number that no run uses up.
@@ -277,7 +148,7 @@ fn main(rt: HostRuntime) {
     let mut out = [0u8; Question::MOST];
     let mut reader = rt.stdin();
     for _ in 0..u64::MAX {
-        if !turn(&rt, &mut reader, &mut a, &mut b, &mut out) {
+        if turn(&rt, &mut reader, &mut a, &mut b, &mut out).is_none() {
             return;
         }
     }

@@ -12,9 +12,13 @@ use Rattle.rules.specs.Refusals.{does_not_add_up, wrong_reason, above_claim}
 use Rattle.rules.specs.SheetCheck.{Beside, check_line, check_lines}
 use Rattle.rules.proofs.Answers.{went, met}
 use Rattle.rules.proofs.Tests.{on_cons}
-use Rattle.said.specs.declared.Checked.{Checked}
-use Rattle.said.specs.declared.Checked.TheVariants.{Accepted, Refused}
-use Rattle.said.specs.Said.{each}
+use Rattle.std.specs.Prelude.{Result, Ok, Err}
+use Rattle.rules.specs.OwnSheet.{SheetLine}
+use Rattle.rows.specs.Refusals.{refused_as}
+use Rattle.rows.specs.declared.Refusal.TheVariants.{DoesNotAddUp, WrongReason, AboveClaim}
+use Rattle.rows.specs.declared.Refused.{Refused}
+use Rattle.said.specs.Said.{each, nothing, as_line}
+use Rattle.said.specs.declared.Said.{Said}
 use Rattle.checker.specs.Beside.{beside_at, besides, LinesChecking}
 use Rattle.checker.specs.Check.{checked_as, LineJudged}
 
@@ -39,33 +43,54 @@ module _ (b : Beside) where
       unfolding check_line ◌>>=◌ demand
       good h = rw (eq-eqb _ _ adds, eq-eqb _ _ named, le-leb _ _ h)
 
-module _ (number size reason claim named filled cancelled : ℕ) (f c s : ℕ) (ef : f ≡ filled) (ec : c ≡ cancelled) (es : s ≡ size) where
-  pub line_adds_not : (f + c ≡ s → ⊥) → LineJudged number size reason claim named filled cancelled (Refused does_not_add_up number)
-  line_adds_not n = record { is = λ b en ez er el em ei ea. ap (refused does_not_add_up) (sym en) ∙ not_adding_up b (λ q. n (omega arith)) }
+-- what the sheet says of the line, word by word
+module _ {said : Said} (b : Beside) (e : b.sheet ≡ as_line said) where
+  named : b.sheet.reason ≡ said.reason
+  named = ap (λ (l : SheetLine). l.reason) e
+
+  filled : b.sheet.filled ≡ said.filled
+  filled = ap (λ (l : SheetLine). l.filled) e
+
+  cancelled : b.sheet.cancelled ≡ said.cancelled
+  cancelled = ap (λ (l : SheetLine). l.cancelled) e
+
+module _ (number size reason claim : ℕ) (said : Said) (f c s : ℕ) (ef : f ≡ said.filled) (ec : c ≡ said.cancelled) (es : s ≡ size) where
+  pub line_adds_not : (f + c ≡ s → ⊥) → LineJudged number size reason claim said (Err (record { refusal = DoesNotAddUp; place = number }))
+  line_adds_not n = record { is = λ b en ez er el et. ap (refused does_not_add_up) (sym en) ∙ not_adding_up b (λ q. n (omega (arith, filled b et, cancelled b et))) }
 
   module _ (adds : f + c ≡ s) where
-    pub line_reason_not : (named ≡ reason → ⊥) → LineJudged number size reason claim named filled cancelled (Refused wrong_reason number)
+    pub line_reason_not : (said.reason ≡ reason → ⊥) → LineJudged number size reason claim said (Err (record { refusal = WrongReason; place = number }))
     line_reason_not n =
-        record { is = λ b en ez er el em ei ea. ap (refused wrong_reason) (sym en) ∙ not_its_reason b (omega arith) (λ q. n (sym em ∙ q ∙ er)) }
+        record {
+          is =
+              λ b en ez er el et.
+              ap (refused wrong_reason) (sym en) ∙ not_its_reason b (omega (arith, filled b et, cancelled b et)) (λ q. n (sym (named b et) ∙ q ∙ er));
+        }
 
-    module _ (same : named ≡ reason) where
-      pub line_beyond : claim < filled → LineJudged number size reason claim named filled cancelled (Refused above_claim number)
+    module _ (same : said.reason ≡ reason) where
+      pub line_beyond : claim < said.filled → LineJudged number size reason claim said (Err (record { refusal = AboveClaim; place = number }))
       line_beyond h =
-          record { is = λ b en ez er el em ei ea. ap (refused above_claim) (sym en) ∙ beyond_claim b (omega arith) (em ∙ same ∙ sym er) (omega arith) }
+          record {
+            is =
+                λ b en ez er el et.
+                ap (refused above_claim) (sym en)
+                ∙ beyond_claim b (omega (arith, filled b et, cancelled b et)) (named b et ∙ same ∙ sym er) (omega (arith, filled b et));
+          }
 
-      pub line_good : filled ≤ claim → LineJudged number size reason claim named filled cancelled Accepted
-      line_good h = record { is = λ b en ez er el em ei ea. good b (omega arith) (em ∙ same ∙ sym er) (omega arith) }
+      pub line_good : said.filled ≤ claim → LineJudged number size reason claim said (Ok tt)
+      line_good h =
+          record { is = λ b en ez er el et. good b (omega (arith, filled b et, cancelled b et)) (named b et ∙ same ∙ sym er) (omega (arith, filled b et)) }
 
 pub ruleset line_laws = (line_adds_not, line_reason_not, line_beyond, line_good)
 
-pub line_checked : (claims said : List ℕ) (i : ℕ) (r : Checked)
-    → LineJudged i (get_or claims (i * 8 + 1) 0) (get_or claims (i * 8 + 2) 0) (get_or claims (i * 8 + 4) 0) (get_or said (i * 3 + 0) 0) (get_or said (i * 3 + 1) 0)
-    (get_or said (i * 3 + 2) 0) r → checked_as r ≡ check_line (beside_at claims said i)
-line_checked claims said i r d = d.is (beside_at claims said i) refl refl refl refl refl refl refl
+pub line_checked : (claims : List ℕ) (said : List Said) (i : ℕ) (r : Result (Unit {0}) Refused)
+    → LineJudged i (get_or claims (i * 8 + 1) 0) (get_or claims (i * 8 + 2) 0) (get_or claims (i * 8 + 4) 0) (get_or said i nothing) r
+    → checked_as r ≡ check_line (beside_at claims said i)
+line_checked claims said i r d = d.is (beside_at claims said i) refl refl refl refl refl
 
 -- ---- line by line
 
-module _ (claims said : List ℕ) (lines : ℕ) where
+module _ (claims : List ℕ) (said : List Said) (lines : ℕ) where
   pub no_line_checked : LinesChecking claims said lines 0
   unfolding besides
   no_line_checked = record { rest = rw sub-zero; low = omega arith }
@@ -75,7 +100,7 @@ module _ (claims said : List ℕ) (lines : ℕ) where
     unfolding check_lines each
     lines_checked h = let d : lines - i ≡ 0 = omega arith in sym (w.rest ∙ rw d)
 
-    module _ (h : i < lines) (r : Checked) (e : checked_as r ≡ check_line (beside_at claims said i)) where
+    module _ (h : i < lines) (r : Result (Unit {0}) Refused) (e : checked_as r ≡ check_line (beside_at claims said i)) where
       left : lines - i ≡ suc (lines - (i + 1))
       left = omega arith
 
@@ -84,11 +109,11 @@ module _ (claims said : List ℕ) (lines : ℕ) where
       unfolding check_lines each
       on a q = w.rest ∙ rw (left, q)
 
-      pub line_refused : (number place : ℕ) → r ≡ Refused number place → refused number place ≡ check_lines (besides claims said lines)
+      pub line_refused : (q : Refused) → r ≡ Err q → (t : Result (Unit {0}) Refused) → t ≡ Err q → checked_as t ≡ check_lines (besides claims said lines)
       unfolding ◌>>=◌
-      line_refused number place g = sym (on (refused number place) (sym (ap checked_as g) ∙ e))
+      line_refused q g t f = ap checked_as f ∙ sym (on (refused_as q) (sym (ap checked_as g) ∙ e))
 
-      pub line_passed : r ≡ Accepted → LinesChecking claims said lines (i + 1)
+      pub line_passed : r ≡ Ok tt → LinesChecking claims said lines (i + 1)
       unfolding ◌>>=◌
       line_passed g = record { rest = on (ok tt) (sym (ap checked_as g) ∙ e); low = omega arith }
 

@@ -8,6 +8,7 @@ use native.Mathlib.Numerals.{add-one}
 use native.Mathlib.Omega.{arith}
 use lib.ListN.{length, take}
 use borrow.Author.Tests.{eq-eqb, ne_eqb, not-true, not-false}
+use Rattle.std.proofs.lemmas.List.{take-map}
 use Rattle.std.specs.Prelude.{◌==◌}
 use Rattle.rules.specs.Basics.{below, keep, sum, Answer, refused, ok, ◌>>=◌, Passed, demand}
 use Rattle.rules.specs.Limits.{most_trades}
@@ -25,9 +26,14 @@ use Rattle.claims.proofs.TradeLines.{trade_findable, gathered_lines}
 use Rattle.rules.proofs.Giving.{Within}
 use Rattle.rules.proofs.OwnSheet.{lines_in}
 use Rattle.fairness.specs.Lines as fairness
+use Rattle.fairness.specs.Lines.{fills_in}
+use Rattle.fairness.specs.declared.Portion.{Portion}
 use Rattle.fairness.proofs.Lines.{known_line_sound}
-use Rattle.said.specs.declared.Checked.{Checked}
-use Rattle.said.specs.declared.Checked.TheVariants.{Accepted, Refused}
+use Rattle.std.specs.Prelude.{Result, Ok, Err}
+use Rattle.rows.specs.Refusals.{refused_as}
+use Rattle.rows.specs.declared.Refusal.TheVariants.{NotTheDueTotal, ShareRuleBroken}
+use Rattle.rows.specs.declared.Refused.{Refused}
+use Rattle.said.specs.declared.Said.{Said}
 use Rattle.said.specs.Said.{each, said_line}
 use Rattle.said.proofs.Reading.{each_more}
 use Rattle.checker.specs.Beside.{besides, fill_on, FillsGathered}
@@ -64,27 +70,31 @@ each_map h f i (suc k) = ap (λ l. h (f i) ∷ l) (each_map h f (i + 1) k)
 
 -- ---- a trade's shares: its lines, filled as the sheet says
 
-abbrev with_said : List ℕ → Line → Beside
+abbrev with_said : List Said → Line → Beside
 with_said said l = record { line = l; sheet = said_line said l.number }
 
-abbrev filled_as : List ℕ → Line → Share
+abbrev filled_as : List Said → Line → Share
 filled_as said l = record { line = l; filled = fill_on said l }
 
-as_shares : (said : List ℕ) (ls : List Line) → map as_share (map (with_said said) ls) ≡ map (filled_as said) ls
+as_shares : (said : List Said) (ls : List Line) → map as_share (map (with_said said) ls) ≡ map (filled_as said) ls
 as_shares said ls = map-map as_share (with_said said) ls
 
-shares_with : (said : List ℕ) (m : ℕ) (ls : List Line) → shares_of m (map (with_said said) ls) ≡ map (filled_as said) (of_trade m ls)
+shares_with : (said : List Said) (m : ℕ) (ls : List Line) → shares_of m (map (with_said said) ls) ≡ map (filled_as said) (of_trade m ls)
 unfolding shares_of of_trade
 shares_with said m ls =
     ap (keep (λ (a : Share). a.line.trade == m)) (as_shares said ls) ∙ keep_map (λ (a : Share). a.line.trade == m) (filled_as said) ls
 
-lines_filled : (said : List ℕ) (ls : List Line) → lines_in (map (filled_as said) ls) ≡ ls
+lines_filled : (said : List Said) (ls : List Line) → lines_in (map (filled_as said) ls) ≡ ls
 lines_filled said ls = map-map _ (filled_as said) ls ∙ map-id ls
 
-fills_filled : (said : List ℕ) (ls : List Line) → fills_of (map (filled_as said) ls) ≡ map (fill_on said) ls
+fills_filled : (said : List Said) (ls : List Line) → fills_of (map (filled_as said) ls) ≡ map (fill_on said) ls
 fills_filled said ls = map-map _ (filled_as said) ls
 
-module _ (j : Journal) (trades claims : List ℕ) (traded n : ℕ) (b : Books j trades claims traded n) (said : List ℕ) where
+-- what stays of every line stays of the first ones
+first_stay : (part : Portion → ℕ) (k : ℕ) (xs ys : List Portion) → map part xs ≡ map part ys → map part (take k xs) ≡ map part (take k ys)
+first_stay part k xs ys same = sym (take-map part k xs) ∙ ap (take k) same ∙ take-map part k ys
+
+module _ (j : Journal) (trades claims : List ℕ) (traded n : ℕ) (b : Books j trades claims traded n) (said : List Said) where
   besides_with : besides claims said n ≡ map (with_said said) (lines j)
   unfolding besides
   besides_with = sym (each_map (with_said said) (line_in claims) 0 n) ∙ ap (map (with_said said)) (sym (lines_each j trades claims traded n b))
@@ -99,29 +109,25 @@ module _ (j : Journal) (trades claims : List ℕ) (traded n : ℕ) (b : Books j 
         map_all (λ (x : Share). x.filled ≤ x.line.claim) as_share (besides claims said n) (lines_within (besides claims said n) e) a
         (keep_sub (λ (x : Share). x.line.trade == m) (map as_share (besides claims said n)) a mem)
 
-    module _ (hm : m < most_trades) (claim customers : List ℕ) (k : ℕ) (g : Gathered claims m claim customers k) where
-      lined : fairness.Lined (of_trade m (lines j)) claim customers k
+    module _ (hm : m < most_trades) (portions : List Portion) (k : ℕ) (g : Gathered claims m portions k) (filled : List Portion) (f : FillsGathered claims said m portions filled) where
+      lined : fairness.Lined (of_trade m (lines j)) (take k filled)
       unfolding lines
       lined =
-          let l = gathered_lines j.header j.history claims n m claim customers k hm b.lined g in
+          let l = gathered_lines j.header j.history claims n m portions k hm b.lined g in
           record {
-            many = l.many;
-            few = g.few;
-            claims = l.claims;
-            customer_contracts = l.contracts;
+            claims = first_stay (λ p. p.claim) k filled portions f.claims_stay ∙ l.claims;
+            customer_contracts = first_stay (λ p. p.customers) k filled portions f.customers_stay ∙ l.contracts;
             sound =
                 λ x mem. known_line_sound j.header j.history x
                 (lines_known b.arrived j.history x (unfold of_trade in keep_sub _ (lines_of j.header j.history j.history) x mem));
-            claim_words = g.claim_words;
-            customer_words = g.customer_words;
           }
 
-      shares_gathered : (fill : List ℕ) → FillsGathered claims said m fill → fairness.Gathered (shares_of m (besides claims said n)) claim customers fill k
-      shares_gathered fill f =
+      shares_gathered : fairness.Gathered (shares_of m (besides claims said n)) (take k filled)
+      shares_gathered =
           let its : trade_lines claims m (many_of claims m) ≡ of_trade m (lines j) = unfold lines in b.lined.by_trade m hm in
-          subst (λ (ss : List Share). fairness.Gathered ss claim customers fill k) (sym trade_shares)
+          subst (λ (ss : List Share). fairness.Gathered ss (take k filled)) (sym trade_shares)
           (record {
-            lined = subst (λ (ls : List Line). fairness.Lined ls claim customers k) (sym (lines_filled said (of_trade m (lines j)))) lined;
+            lined = subst (λ (ls : List Line). fairness.Lined ls (take k filled)) (sym (lines_filled said (of_trade m (lines j)))) lined;
             fills =
                 rw g.many
                 (f.fills ∙ ap (map (fill_on said)) its ∙ sym (fills_filled said (of_trade m (lines j))));
@@ -143,42 +149,44 @@ module _ (j : Journal) (bs : List Beside) (m : ℕ) where
     unfolding check_trade ◌>>=◌ demand
     both_met f = rw (eq-eqb _ _ e, f)
 
-module _ (claims trades : List ℕ) (lines : ℕ) (said : List ℕ) (m : ℕ) (hm : m < most_trades) (claim customers : List ℕ) (k : ℕ) (g : Gathered claims m claim customers k)
-    (fill : List ℕ) (f : FillsGathered claims said m fill) (filled : ℕ) (ef : filled ≡ sum (take k fill)) (d : ℕ) (di : DueIs claims trades m d) (wide : ℕ)
+module _ (claims trades : List ℕ) (lines : ℕ) (said : List Said) (m : ℕ) (hm : m < most_trades) (portions : List Portion) (k : ℕ) (g : Gathered claims m portions k)
+    (its : List Portion) (f : FillsGathered claims said m portions its) (filled : ℕ) (ef : filled ≡ sum (fills_in (take k its))) (d : ℕ) (di : DueIs claims trades m d) (wide : ℕ)
     (ed : wide ≡ d) where
   module _ (j : Journal) (traded : ℕ) (b : Books j trades claims traded lines) (lt : m < traded) where
     filled_is : filled ≡ sum (fills_of (shares_of m (besides claims said lines)))
-    filled_is = ef ∙ ap sum (shares_gathered j trades claims traded lines b said m hm claim customers k g fill f).fills
+    filled_is = ef ∙ ap sum (shares_gathered j trades claims traded lines b said m hm portions k g its f).fills
 
     due_is : wide ≡ due j m
     due_is = ed ∙ di.so j.header j.history b.snaps traded lines lt hm b.traded b.lined
 
-    rule_is : check_lines (besides claims said lines) ≡ ok tt → (kept : Bool) → fairness.RuleAnswered claim customers fill k kept
+    rule_is : check_lines (besides claims said lines) ≡ ok tt → (kept : Bool) → fairness.RuleAnswered (take k its) kept
         → kept ≡ share_rule (shares_of m (besides claims said lines))
     rule_is e kept a =
-        a.is (shares_of m (besides claims said lines)) (shares_gathered j trades claims traded lines b said m hm claim customers k g fill f) (within j trades claims traded lines b said m e)
+        a.is (shares_of m (besides claims said lines)) (shares_gathered j trades claims traded lines b said m hm portions k g its f) (within j trades claims traded lines b said m e)
 
-  pub trade_due_missed : (filled ≡ wide → ⊥) → TradeChecked claims trades lines said m (Refused not_the_due_total m)
-  trade_due_missed q =
-      record {
+  pub trade_due_missed : (filled ≡ wide → ⊥) → (r : Refused) → r ≡ record { refusal = NotTheDueTotal; place = m } → TradeChecked claims trades lines said m (Err r)
+  trade_due_missed q r er =
+      rw er
+      (record {
         so =
             λ j traded b lt e.
             let p = filled_is j traded b lt in
-            let r = due_is j traded b lt in
-            total_missed j (besides claims said lines) m (λ z. q (p ∙ z ∙ sym r));
-      }
+            let d = due_is j traded b lt in
+            total_missed j (besides claims said lines) m (λ z. q (p ∙ z ∙ sym d));
+      })
 
-  module _ (q : filled ≡ wide) (kept : Bool) (a : fairness.RuleAnswered claim customers fill k kept) where
-    pub trade_rule_broken : not kept ≡ true → TradeChecked claims trades lines said m (Refused share_rule_broken m)
-    trade_rule_broken h =
-        record {
+  module _ (q : filled ≡ wide) (kept : Bool) (a : fairness.RuleAnswered (take k its) kept) where
+    pub trade_rule_broken : not kept ≡ true → (r : Refused) → r ≡ record { refusal = ShareRuleBroken; place = m } → TradeChecked claims trades lines said m (Err r)
+    trade_rule_broken h r er =
+        rw er
+        (record {
           so =
               λ j traded b lt e.
               rule_missed j (besides claims said lines) m (sym (filled_is j traded b lt) ∙ q ∙ due_is j traded b lt)
               (sym (rule_is j traded b lt e kept a) ∙ not-true kept h);
-        }
+        })
 
-    pub trade_passed : not kept ≡ false → TradeChecked claims trades lines said m Accepted
+    pub trade_passed : not kept ≡ false → TradeChecked claims trades lines said m (Ok tt)
     trade_passed h =
         record {
           so =
@@ -191,16 +199,16 @@ pub ruleset trade_laws = (trade_findable, trade_due_missed, trade_rule_broken, t
 
 -- ---- trade by trade
 
-module _ (claims trades : List ℕ) (lines : ℕ) (said : List ℕ) (traded : ℕ) where
+module _ (claims trades : List ℕ) (lines : ℕ) (said : List Said) (traded : ℕ) where
   pub no_trade_checked : TradesChecking claims trades lines said traded 0
   no_trade_checked = record { so = λ j b e. rw sub-zero; low = omega arith }
 
   module _ (m : ℕ) (w : TradesChecking claims trades lines said traded m) where
-    pub trades_checked : traded ≤ m → TradesChecked claims trades lines said traded Accepted
+    pub trades_checked : traded ≤ m → TradesChecked claims trades lines said traded (Ok tt)
     unfolding check_trades
     trades_checked h = let d : traded - m ≡ 0 = omega arith in record { so = λ j b e. sym (w.so j b e ∙ rw d) }
 
-    module _ (h : m < traded) (r : Checked) (t : TradeChecked claims trades lines said m r) where
+    module _ (h : m < traded) (r : Result (Unit {0}) Refused) (t : TradeChecked claims trades lines said m r) where
       left : traded - m ≡ suc (traded - (m + 1))
       left = omega arith
 
@@ -209,11 +217,11 @@ module _ (claims trades : List ℕ) (lines : ℕ) (said : List ℕ) (traded : �
       unfolding check_trades
       on j b e a q = w.so j b e ∙ rw (left, sym (t.so j traded b h e) ∙ q)
 
-      pub a_trade_refused : (number place : ℕ) → r ≡ Refused number place → TradesChecked claims trades lines said traded (Refused number place)
+      pub a_trade_refused : (q : Refused) → r ≡ Err q → (u : Result (Unit {0}) Refused) → u ≡ Err q → TradesChecked claims trades lines said traded u
       unfolding ◌>>=◌
-      a_trade_refused number place g = record { so = λ j b e. sym (on j b e (refused number place) (ap checked_as g)) }
+      a_trade_refused q g u f = record { so = λ j b e. ap checked_as f ∙ sym (on j b e (refused_as q) (ap checked_as g)) }
 
-      pub a_trade_passed : r ≡ Accepted → TradesChecking claims trades lines said traded (m + 1)
+      pub a_trade_passed : r ≡ Ok tt → TradesChecking claims trades lines said traded (m + 1)
       unfolding ◌>>=◌
       a_trade_passed g = record { so = λ j b e. on j b e (ok tt) (ap checked_as g); low = omega arith }
 

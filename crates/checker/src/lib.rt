@@ -10,44 +10,33 @@ ghost use Rattle.checker.specs.Beside.{beside_at, besides, FillsGathered};
 ghost use Rattle.checker.specs.Check.{checked_as, LineJudged, TradeChecked, TradesChecked, CheckedAs};
 
 use claims::Line;
-use rows::{Refusal, TradeLines};
-use said::{Checked, Said};
+use counted::SatisfactionOrder;
+use fairness::Portion;
+use rows::{Refusal, Refused, TradeLines};
+use said::Said;
 use trades::Trades;
 
 // 21, 22, 24, of the numbers themselves. Any two words have room for their sum in 64 bits.
-fn judge_line(
-    line: usize,
-    size: u32,
-    reason: u32,
-    claim: u32,
-    named: u32,
-    filled: u32,
-    cancelled: u32,
-) -> Checked
-    ensures { LineJudged line size reason claim named filled cancelled result }
+fn judge_line(line: usize, size: u32, reason: u32, claim: u32, said: Said) -> Result<(), Refused>
+    ensures { LineJudged line size reason claim said result }
 {
-    if rows::wide(filled) + rows::wide(cancelled) != rows::wide(size) {
-        return Checked::Refused {
-            no: Refusal::DOES_NOT_ADD_UP,
-            place: line,
-        };
+    if u64::from(said.filled) + u64::from(said.cancelled) != u64::from(size) {
+        return Err(Refusal::DoesNotAddUp.at(line));
     }
-    if named != reason {
-        return Checked::Refused {
-            no: Refusal::WRONG_REASON,
-            place: line,
-        };
+    if said.reason != reason {
+        return Err(Refusal::WrongReason.at(line));
     }
-    if claim < filled {
-        return Checked::Refused {
-            no: Refusal::ABOVE_CLAIM,
-            place: line,
-        };
+    if claim < said.filled {
+        return Err(Refusal::AboveClaim.at(line));
     }
-    Checked::Accepted
+    Ok(())
 }
 
-fn check_line(claims: &[u32; Line::WORDS], said: &[u32; Said::WORDS], i: usize) -> Checked
+fn check_line(
+    claims: &[u32; Line::WORDS],
+    said: &[Said; SatisfactionOrder::MOST],
+    i: usize,
+) -> Result<(), Refused>
     requires { i < most_satisfaction_orders }
     ensures { checked_as result ≡ check_line (beside_at claims.now said.now i) }
 {
@@ -56,45 +45,41 @@ fn check_line(claims: &[u32; Line::WORDS], said: &[u32; Said::WORDS], i: usize) 
         claims[i * 8 + Line::SIZE],
         claims[i * 8 + Line::REASON],
         claims[i * 8 + Line::CLAIM],
-        said[i * 3 + Said::REASON],
-        said[i * 3 + Said::FILLED],
-        said[i * 3 + Said::CANCELLED],
+        said[i],
     )
 }
 
 // "line by line"
-fn check_lines(claims: &[u32; Line::WORDS], said: &[u32; Said::WORDS], lines: usize) -> Checked
+fn check_lines(
+    claims: &[u32; Line::WORDS],
+    said: &[Said; SatisfactionOrder::MOST],
+    lines: usize,
+) -> Result<(), Refused>
     requires { lines ≤ most_satisfaction_orders }
     ensures { checked_as result ≡ check_lines (besides claims.now said.now lines) }
 {
-    let mut i: usize = 0;
-    while i < lines {
-        if let Checked::Refused { no, place } = check_line(claims, said, i) {
-            return Checked::Refused { no, place };
-        }
-        i += 1;
+    for i in 0..lines {
+        check_line(claims, said, i)?;
     }
-    Checked::Accepted
+    Ok(())
 }
 
 // What the sheet fills on trade m's lines, in their order.
 pub fn gather_fills(
     claims: &[u32; Line::WORDS],
     lines: usize,
-    said: &[u32; Said::WORDS],
+    said: &[Said; SatisfactionOrder::MOST],
     m: usize,
-    fill: &mut [u32; TradeLines::MOST],
+    portions: &mut [Portion; TradeLines::MOST],
 )
     requires m_lt_most_trades { (m < most_trades) × Filing claims.now lines }
-    requires fill_len { length fill.old ≡ most_trade_lines }
-    ensures { FillsGathered claims.now said.now m fill.new }
+    requires portions_len { length portions.old ≡ most_trade_lines }
+    ensures { FillsGathered claims.now said.now m portions.old portions.new }
 {
     let k = claims::lines_of(claims, m);
-    let mut i: usize = 0;
-    while i < k {
+    for i in 0..k {
         let line = claims::line_of(claims, m, i);
-        fill[i] = said[line * 3 + Said::FILLED];
-        i += 1;
+        portions[i].filled = said[line].filled;
     }
 }
 
@@ -104,32 +89,25 @@ fn check_trade(
     claims: &[u32; Line::WORDS],
     trades: &[u32; Trades::WORDS],
     lines: usize,
-    said: &[u32; Said::WORDS],
+    said: &[Said; SatisfactionOrder::MOST],
     m: usize,
-) -> Checked
+) -> Result<(), Refused>
     requires { (m < most_trades) × Filing claims.now lines }
     ensures { TradeChecked claims.now trades.now lines said.now m result }
 {
-    let mut claim = [0u32; TradeLines::MOST];
-    let mut customers = [0u32; TradeLines::MOST];
-    let mut fill = [0u32; TradeLines::MOST];
-    let k = claims::gather(claims, m, &mut claim, &mut customers);
-    gather_fills(claims, lines, said, m, &mut fill);
-    let filled = fairness::total(&fill, k);
-    let due = rows::wide(claims::due_total(claims, trades, m));
+    let mut portions = [Portion::NOTHING; TradeLines::MOST];
+    let k = claims::gather(claims, m, &mut portions);
+    gather_fills(claims, lines, said, m, &mut portions);
+    let its = &portions[..k];
+    let filled = fairness::total(its);
+    let due = u64::from(claims::due_total(claims, trades, m));
     if filled != due {
-        return Checked::Refused {
-            no: Refusal::NOT_THE_DUE_TOTAL,
-            place: m,
-        };
+        return Err(Refusal::NotTheDueTotal.at(m));
     }
-    if !fairness::keeps_rule(&claim, &customers, &fill, k) {
-        return Checked::Refused {
-            no: Refusal::SHARE_RULE_BROKEN,
-            place: m,
-        };
+    if !fairness::keeps_rule(its) {
+        return Err(Refusal::ShareRuleBroken.at(m));
     }
-    Checked::Accepted
+    Ok(())
 }
 
 // "trade by trade"
@@ -137,20 +115,16 @@ fn check_trades(
     claims: &[u32; Line::WORDS],
     trades: &[u32; Trades::WORDS],
     lines: usize,
-    said: &[u32; Said::WORDS],
+    said: &[Said; SatisfactionOrder::MOST],
     traded: usize,
-) -> Checked
+) -> Result<(), Refused>
     requires { (traded ≤ most_trades) × Filing claims.now lines }
     ensures { TradesChecked claims.now trades.now lines said.now traded result }
 {
-    let mut m: usize = 0;
-    while m < traded {
-        if let Checked::Refused { no, place } = check_trade(claims, trades, lines, said, m) {
-            return Checked::Refused { no, place };
-        }
-        m += 1;
+    for m in 0..traded {
+        check_trade(claims, trades, lines, said, m)?;
     }
-    Checked::Accepted
+    Ok(())
 }
 
 // The sheet of a journal with so many trades and so many Satisfaction Orders, whose tables these are.
@@ -160,16 +134,12 @@ pub fn check_sheet(
     traded: usize,
     lines: usize,
     sheet: &[u8],
-) -> Checked
+) -> Result<(), Refused>
     requires { (traded ≤ most_trades) × Filing claims.now lines }
     ensures { CheckedAs claims.now trades.now traded lines sheet.now result }
 {
-    let mut said = [0u32; Said::WORDS];
-    if let Checked::Refused { no, place } = said::read_sheet(sheet, lines, &mut said) {
-        return Checked::Refused { no, place };
-    }
-    if let Checked::Refused { no, place } = check_lines(claims, &said, lines) {
-        return Checked::Refused { no, place };
-    }
+    let mut said = [Said::NOTHING; SatisfactionOrder::MOST];
+    said::read_sheet(sheet, lines, &mut said)?;
+    check_lines(claims, &said, lines)?;
     check_trades(claims, trades, lines, &said, traded)
 }

@@ -301,30 +301,30 @@ module _ (h : Header) (past : History) (claims : List ℕ) (lines : ℕ) (held :
 -- ---- the code's steps
 
 module _ (claims : List ℕ) (k : ℕ) (able : Cancellable claims k) where
-  module _ (m : ℕ) (em : (m ≡ get_or claims (k * 8 + 0) 0) × (m < 4294967296)) where
+  module _ (m : ℕ) (em : m ≡ get_or claims (k * 8 + 0) 0) where
     pub claim_in_its_sum : get_or claims (k * 8 + 4) 0 ≤ get_or claims (sum_at m) 0
     unfolding sum_of
-    claim_in_its_sum = rw em.0 able.claimed
+    claim_in_its_sum = rw em able.claimed
 
     pub cleared_so : (close now : ℕ) (b : Bool) → b ≡ in_time (get_or claims (k * 8 + 7) 0) close now → not b ≡ false → (why : ℕ) → why ≡ named (get_or claims (k * 8 + 2) 0)
         → set (set (set claims (sum_at m) (get_or claims (sum_at m) 0 - get_or claims (k * 8 + 4) 0)) (k * 8 + 2) why) (k * 8 + 4) 0 ≡ cancelled_in claims k close now
     unfolding cleared_in cancelled_in
-    cleared_so close now b eb t why ew = rw (em.0, ew, ← eb, not-false b t)
+    cleared_so close now b eb t why ew = rw (em, ew, ← eb, not-false b t)
 
   pub late_so : (close now : ℕ) (b : Bool) → b ≡ in_time (get_or claims (k * 8 + 7) 0) close now → not b ≡ true → claims ≡ cancelled_in claims k close now
   unfolding cancelled_in
   late_so close now b eb t = rw (← eb, not-true b t)
 
 module _ (r : Rec) (claims : List ℕ) (traded exchanges lines : ℕ) (pl : FitsClaims r claims traded exchanges lines) (kind : r.kind ≡ naming_kind)
-    (k : ℕ) (ek : (k ≡ word r 0) × (k < 4294967296)) where
+    (k : ℕ) (ek : k ≡ word r 0) where
   pub order_cancellable : Cancellable claims k
-  order_cancellable = rw ek.0 (pl.cancellable kind)
+  order_cancellable = rw ek (pl.cancellable kind)
 
   pub order_cancelled : Filing claims lines → (home close : ℕ) (trades shown claims2 : List ℕ) → claims2 ≡ cancelled_in claims k close r.time
       → ClaimsStep r home exchanges close trades shown traded claims lines claims2 lines
   unfolding cancelled_in
   order_cancelled fi home close trades shown claims2 ec =
-      let low : k < lines = omega (arith, ek.0, pl.order kind) in
+      let low : k < lines = omega (arith, ek, pl.order kind) in
       by_test (in_time (get_or claims (k * 8 + 7) 0) close r.time)
       (λ t.
       let now : claims2 ≡ cleared_in claims k = ec ∙ rw t in
@@ -333,7 +333,7 @@ module _ (r : Rec) (claims : List ℕ) (traded exchanges lines : ℕ) (pl : Fits
         filing = filing_cleared claims k order_cancellable lines fi;
         so =
             λ h sizes e past arrived is closes rd tv held.
-            lined_in_time h past claims lines held e k (rd.kind ∙ kind) (sym (rd.fields 0) ∙ sym ek.0) low close closes (rw rd.time t) order_cancellable fi;
+            lined_in_time h past claims lines held e k (rd.kind ∙ kind) (sym (rd.fields 0) ∙ sym ek) low close closes (rw rd.time t) order_cancellable fi;
       }))
       (λ t.
       let now : claims2 ≡ claims = ec ∙ rw t in
@@ -342,7 +342,7 @@ module _ (r : Rec) (claims : List ℕ) (traded exchanges lines : ℕ) (pl : Fits
         filing = fi;
         so =
             λ h sizes e past arrived is closes rd tv held.
-            lined_late h past claims lines held e k (rd.kind ∙ kind) (sym (rd.fields 0) ∙ sym ek.0) low close closes (rw rd.time t);
+            lined_late h past claims lines held e k (rd.kind ∙ kind) (sym (rd.fields 0) ∙ sym ek) low close closes (rw rd.time t);
       }))
 
 pub ruleset cancel_laws = (claim_in_its_sum, cleared_so, late_so, order_cancellable, order_cancelled)

@@ -7,11 +7,11 @@ use native.Mathlib.Omega.{arith}
 use lib.Dec.{eqb}
 use lib.ListN.{get_or, length, set, length-set}
 use borrow.Author.Tests.{eq-eqb, ne_eqb, eqb-true, eqb-false}
-use Rattle.std.specs.Prelude.{if◌then◌else◌, ◌==◌}
+use Rattle.std.specs.Prelude.{if◌then◌else◌, ◌==◌, Option}
 use Rattle.rules.specs.Basics.{any, keep, sum}
 use Rattle.rules.specs.Limits.{most_exchanges, most_trades, most_satisfaction_orders, most_trade_lines, most_contracts}
 use Rattle.rules.specs.Header.{Header}
-use Rattle.rules.specs.Record.{Event, field, satisfaction, is_satisfaction, satisfaction_kind, naming_kind, cancellation_kind}
+use Rattle.rules.specs.Record.{Event, field, is_satisfaction, satisfaction_kind, naming_kind, cancellation_kind}
 use Rattle.rules.specs.Journal.{History, Happened, count, nth, names, taken_back}
 use Rattle.rules.specs.Reasons.{case_of, customers, names_in_time, reason}
 use Rattle.rules.specs.Due.{least_of, Line, line_of, lines_of, of_trade, claims_of, claim}
@@ -28,7 +28,8 @@ use Rattle.rows.proofs.Rows.{behind_row_kept}
 use Rattle.orders.specs.Orders.{Headed, Heads}
 use Rattle.trades.specs.Trades.{trade_words, Traded}
 use Rattle.reasons.specs.declared.Facts.{Facts}
-use Rattle.reasons.specs.Reasons.{again_at, reason_of, claim_of}
+use Rattle.reasons.specs.declared.Reason.{Reason}
+use Rattle.reasons.specs.Reasons.{stored_as, again_at, reason_of, claim_of}
 use Rattle.claims.specs.Facts.{facts_of}
 use Rattle.claims.specs.Lines.{part_words, part_at, many_at, sum_at, again_from, again_word, line_words, line_in, lines_from, number_at, many_of, sum_of, trade_lines, LineTells, Lined, Filing, Fileable, Filed, Cancellable, FitsClaims, ClaimsStep}
 use Rattle.claims.proofs.Words.{others_kept, first_put, second_put, third_put}
@@ -154,7 +155,7 @@ claim_at_most_size why size contracts traded closing =
 -- ---- a line's row and the three words of its trade
 
 module _ (claims claims1 row : List ℕ) (n m k w : ℕ) (able : Fileable claims row n m) (first : Put claims claims1 row n 8)
-    (ek : (k ≡ get_or claims (many_at m) 0) × (k < 4294967296)) (ew : w ≡ n) where
+    (ek : k ≡ get_or claims (many_at m) 0) (ew : w ≡ n) where
   abbrev many : ℕ
   many = get_or claims (many_at m) 0 + 1
 
@@ -165,7 +166,7 @@ module _ (claims claims1 row : List ℕ) (n m k w : ℕ) (able : Fileable claims
   filed = set (set (set claims1 (part_at m + k) w) (many_at m) many) (sum_at m) total
 
   few : k < most_trade_lines
-  few = omega (arith, able.line_left, ek.0)
+  few = omega (arith, able.line_left, ek)
 
   long_1 : length claims1 ≡ line_words
   long_1 = first.long ∙ able.long
@@ -192,13 +193,13 @@ module _ (claims claims1 row : List ℕ) (n m k w : ℕ) (able : Fileable claims
         here = λ i hi. row_word n i able.line hi ∙ first.here i hi;
         others = λ q i hq hi ne. row_word q i hq hi ∙ first.others q i hi ne;
         number_here =
-            ap (λ (i : ℕ). get_or filed (part_at m + i) 0) (sym ek.0)
+            ap (λ (i : ℕ). get_or filed (part_at m + i) 0) (sym ek)
             ∙ first_put claims1 (part_at m + k) (many_at m) (sum_at m) w many total
             (omega (arith, long_1, few, able.trade))
             (λ z. omega (arith, few))
             (λ z. omega (arith, few))
             ∙ ew;
-        number_other = λ q i hq hi ne. part_word q i (omega arith) (λ same. (λ z. ne same (omega (arith, ek.0)), hi));
+        number_other = λ q i hq hi ne. part_word q i (omega arith) (λ same. (λ z. ne same (omega (arith, ek)), hi));
         many_here =
             second_put claims1 (part_at m + k) (many_at m) (sum_at m) w many total (omega (arith, long_1, able.trade)) (λ z. omega arith);
         many_other = λ q ne. part_word q most_trade_lines (omega arith) (λ same. absurd (ne same));
@@ -212,41 +213,41 @@ module _ (claims claims1 row : List ℕ) (n m k w : ℕ) (able : Fileable claims
 
 -- the trade and the sender that a Satisfaction Order names
 module _ (r : Rec) (claims : List ℕ) (traded exchanges lines : ℕ) (pl : FitsClaims r claims traded exchanges lines) (kind : r.kind ≡ satisfaction_kind) where
-  module _ (ht : traded ≤ most_trades) (m : ℕ) (em : (m ≡ word r 0) × (m < 4294967296)) where
+  module _ (ht : traded ≤ most_trades) (m : ℕ) (em : m ≡ word r 0) where
     pub trade_known : m < most_trades
-    trade_known = omega (arith, em.0, pl.trade kind)
+    trade_known = omega (arith, em, pl.trade kind)
 
     pub trade_word_known : (i : ℕ) → i < 8 → m * 8 + i < trade_words
     trade_word_known i h = omega (arith, trade_known)
 
     -- the word of the trade and its sender
-    pub again_word_known : (x : ℕ) → (x ≡ word r 1) × (x < 4294967296) → (home : ℕ) → Headed exchanges home → again_from + (m * most_exchanges + (x - 1)) < line_words
-    again_word_known x ex home head = omega (arith, trade_known, ex.0, (pl.fields kind).sender.to_n, head.few)
+    pub again_word_known : (x : ℕ) → x ≡ word r 1 → (home : ℕ) → Headed exchanges home → again_from + (m * most_exchanges + (x - 1)) < line_words
+    again_word_known x ex home head = omega (arith, trade_known, ex, (pl.fields kind).sender.to_n, head.few)
 
-  module _ (x : ℕ) (ex : (x ≡ word r 1) × (x < 4294967296)) where
+  module _ (x : ℕ) (ex : x ≡ word r 1) where
     pub sender_from_one : 1 ≤ x
-    sender_from_one = omega (arith, ex.0, (pl.fields kind).sender.from_one)
+    sender_from_one = omega (arith, ex, (pl.fields kind).sender.from_one)
 
     pub sender_known : (home : ℕ) → Headed exchanges home → x - 1 < most_exchanges
-    sender_known home ok = omega (arith, sender_from_one, ex.0, (pl.fields kind).sender.to_n, ok.few)
+    sender_known home ok = omega (arith, sender_from_one, ex, (pl.fields kind).sender.to_n, ok.few)
 
 module _ (r : Rec) (home exchanges close : ℕ) (trades shown : List ℕ) (traded : ℕ) (claims : List ℕ) (lines : ℕ) (ht : traded ≤ most_trades) (ok : Headed exchanges home)
     (pl : FitsClaims r claims traded exchanges lines) (kind : r.kind ≡ satisfaction_kind) (fi : Filing claims lines)
-    (m : ℕ) (em : (m ≡ word r 0) × (m < 4294967296)) (x : ℕ) (ex : (x ≡ word r 1) × (x < 4294967296)) where
+    (m : ℕ) (em : m ≡ word r 0) (x : ℕ) (ex : x ≡ word r 1) where
   trade_low : m < most_trades
   trade_low = trade_known r claims traded exchanges lines pl kind ht m em
 
   line_left : many_of claims m < most_trade_lines
-  line_left = rw em.0 (pl.first kind)
+  line_left = rw em (pl.first kind)
 
   module _ (again : ℕ) (eg : again ≡ get_or claims (again_word m (x - 1)) 0) (k : Facts) (ek : k ≡ facts_of trades shown m (x - 1) home close (word r 2) r.time again) (why : ℕ) (ew : why ≡ reason_of k)
       (due : ℕ) (ed : due ≡ claim_of why (word r 3) k.customers (get_or trades (m * 8 + 1) 0) (get_or trades (m * 8 + 7) 0)) where
     claim_small : due ≤ most_contracts
     claim_small = omega (arith, claim_at_most_size why (word r 3) k.customers (get_or trades (m * 8 + 1) 0) (get_or trades (m * 8 + 7) 0), (pl.fields kind).size, ed)
 
-    pub order_fileable : Fileable claims (word r 0 ∷ word r 3 ∷ why ∷ k.customers ∷ due ∷ word r 1 ∷ word r 2 ∷ r.time ∷ []) lines m
+    order_fits : Fileable claims (word r 0 ∷ word r 3 ∷ why ∷ k.customers ∷ due ∷ word r 1 ∷ word r 2 ∷ r.time ∷ []) lines m
     unfolding many_of sum_of
-    order_fileable =
+    order_fits =
         record {
           line = pl.room kind;
           trade = trade_low;
@@ -292,7 +293,7 @@ module _ (r : Rec) (home exchanges close : ℕ) (trades shown : List ℕ) (trade
             earlier = λ a i ha hi. by_test (eqb a m) (λ q. new a i ha hi (eqb-true a m q)) (λ q. other a i ha hi (eqb-false a m q));
             of_trades =
                 λ i hi. by_test (eqb i lines)
-                (λ q. rw (eqb-true i lines q, f.here 0 (omega arith)) (omega (arith, trade_low, em.0)))
+                (λ q. rw (eqb-true i lines q, f.here 0 (omega arith)) (omega (arith, trade_low, em)))
                 (λ q. let ne = eqb-false i lines q in
                 let old : i < lines = omega (arith, ne) in
                 rw (f.others i 0 (omega (arith, fi.few)) (omega arith) ne) (fi.of_trades i old));
@@ -334,16 +335,16 @@ module _ (r : Rec) (home exchanges close : ℕ) (trades shown : List ℕ) (trade
         sat = rd.kind ∙ kind
 
         names_trade : field e 0 ≡ m
-        names_trade = sym (rd.fields 0) ∙ sym em.0
+        names_trade = sym (rd.fields 0) ∙ sym em
 
         names_sender : field e 1 ≡ x - 1 + 1
-        names_sender = sym (rd.fields 1) ∙ sym ex.0 ∙ omega (arith, sender_from_one r claims traded exchanges lines pl kind x ex)
+        names_sender = sym (rd.fields 1) ∙ sym ex ∙ omega (arith, sender_from_one r claims traded exchanges lines pl kind x ex)
 
         known : m < traded
-        known = omega (arith, em.0, pl.trade kind)
+        known = omega (arith, em, pl.trade kind)
 
         sends : x - 1 < h.exchanges
-        sends = let z = is.exchanges in omega (arith, ex.0, (pl.fields kind).sender.from_one, (pl.fields kind).sender.to_n)
+        sends = let z = is.exchanges in omega (arith, ex, (pl.fields kind).sender.from_one, (pl.fields kind).sender.to_n)
 
         home_in : home ≤ h.exchanges
         home_in = let z = is.exchanges in omega (arith, ok.to_n)
@@ -452,6 +453,16 @@ module _ (r : Rec) (home exchanges close : ℕ) (trades shown : List ℕ) (trade
       pub order_taken : ClaimsStep r home exchanges close trades shown traded claims lines claims2 (lines + 1)
       order_taken = record { filing = filing_after; so = lined_after }
 
+  -- the same, of a reason found and then stored
+  module _ (again : ℕ) (eg : again ≡ get_or claims (again_word m (x - 1)) 0) (k : Facts) (ek : k ≡ facts_of trades shown m (x - 1) home close (word r 2) r.time again) (found : Option Reason) (ef : stored_as found ≡ reason_of k) (why : ℕ) (es : why ≡ stored_as found)
+      (due : ℕ) (ed : due ≡ claim_of why (word r 3) k.customers (get_or trades (m * 8 + 1) 0) (get_or trades (m * 8 + 7) 0)) where
+    pub order_fileable : Fileable claims (word r 0 ∷ word r 3 ∷ why ∷ k.customers ∷ due ∷ word r 1 ∷ word r 2 ∷ r.time ∷ []) lines m
+    order_fileable = order_fits again eg k ek why (es ∙ ef) due ed
+
+    module _ (claims2 : List ℕ) (f : Filed claims claims2 (word r 0 ∷ word r 3 ∷ why ∷ k.customers ∷ due ∷ word r 1 ∷ word r 2 ∷ r.time ∷ []) lines m) where
+      pub order_filed : ClaimsStep r home exchanges close trades shown traded claims lines claims2 (lines + 1)
+      order_filed = order_taken again eg k ek why (es ∙ ef) due ed claims2 f
+
 pub no_order : (r : Rec) (home exchanges close : ℕ) (trades shown : List ℕ) (traded : ℕ) (claims : List ℕ) (lines : ℕ) → Filing claims lines
     → (r.kind ≡ satisfaction_kind → ⊥) → (r.kind ≡ naming_kind → ⊥) → (r.kind ≡ cancellation_kind → ⊥) → ClaimsStep r home exchanges close trades shown traded claims lines claims lines
 no_order r home exchanges close trades shown traded claims lines fi ns nn nc =
@@ -489,4 +500,4 @@ record_placed exchanges home r claims traded lines ok known left room order canc
       time = ok.time;
     }
 
-pub ruleset line_laws = (line_filed, trade_known, trade_word_known, again_word_known, sender_from_one, sender_known, order_taken, no_order)
+pub ruleset line_laws = (line_filed, trade_known, trade_word_known, again_word_known, sender_from_one, sender_known, order_filed, no_order)

@@ -16,6 +16,8 @@ use Rattle.rules.specs.Due.{Line, line_of, lines_of, of_trade, claims_of, custom
 use Rattle.rules.proofs.Below.{as_many_below}
 use Rattle.rules.proofs.Journals.{Arrived}
 use Rattle.rules.proofs.TradeLines.{trade_has_at_most_two_lines_for_each_other}
+use Rattle.fairness.specs.Lines.{claims_in, customers_in}
+use Rattle.fairness.specs.declared.Portion.{Portion}
 use Rattle.claims.specs.Lines.{part_at, many_at, line_in, number_at, many_of, trade_lines, Lined, Filing, Findable, ManyIs, NumberIs, Gathering, Gathered}
 use Rattle.claims.proofs.Lines.{lines_new, of_trade_more, in_its_trade, trade_lines_more}
 
@@ -24,39 +26,44 @@ trade_findable claims lines m fi hm =
     record { trade = hm; few_lines = fi.few_lines m hm; numbers = λ i hi. omega (arith, fi.earlier m i hm hi, fi.few) }
 
 module _ (claims : List ℕ) (m : ℕ) (f : Findable claims m) where
-  pub many_read : (r : ℕ) → (r ≡ get_or claims (many_at m) 0) × (r < 4294967296) → ManyIs claims m r
+  pub many_read : (r : ℕ) → r ≡ get_or claims (many_at m) 0 → ManyIs claims m r
   unfolding many_of
-  many_read r e = record { is = e.0; few = omega (arith, e.0, f.few_lines) }
+  many_read r e = record { is = e; few = omega (arith, e, f.few_lines) }
 
-  pub number_read : (i r : ℕ) → i < many_of claims m → (r ≡ get_or claims (part_at m + i) 0) × (r < 4294967296) → NumberIs claims m i r
+  pub number_read : (i r : ℕ) → i < many_of claims m → r ≡ get_or claims (part_at m + i) 0 → NumberIs claims m i r
   unfolding number_at
-  number_read i r h e = record { is = e.0; low = omega (arith, e.0, f.numbers i h) }
+  number_read i r h e = record { is = e; low = omega (arith, e, f.numbers i h) }
 
--- one word more of a column
-column_more : (claims : List ℕ) (m i j v : ℕ) (of : Line → ℕ) (words : List ℕ) → j ≡ number_at claims m i → v ≡ of (line_in claims j) → i < length words
-    → take i words ≡ map of (trade_lines claims m i) → take (i + 1) (set words i v) ≡ map of (trade_lines claims m (i + 1))
-column_more claims m i j v of words ej ev h same =
-    let more = trade_lines_more claims m i in
-    rw (trade_lines_more claims m i, add-one i) (take-suc-set words i v h ∙ rw (same, ev, ej) (sym (map-append of (trade_lines claims m i) (line_in claims (number_at claims m i) ∷ []))))
+-- one line more of a column
+column_more : (claims : List ℕ) (m i j : ℕ) (p : Portion) (part : Portion → ℕ) (of : Line → ℕ) (portions : List Portion) → j ≡ number_at claims m i
+    → part p ≡ of (line_in claims j) → i < length portions → map part (take i portions) ≡ map of (trade_lines claims m i)
+    → map part (take (i + 1) (set portions i p)) ≡ map of (trade_lines claims m (i + 1))
+column_more claims m i j p part of portions ej ev h same =
+    rw (trade_lines_more claims m i, add-one i)
+    (ap (map part) (take-suc-set portions i p h) ∙ map-append part (take i portions) (p ∷ [])
+    ∙ rw (same, ev, ej) (sym (map-append of (trade_lines claims m i) (line_in claims (number_at claims m i) ∷ []))))
 
-module _ (claims : List ℕ) (m k : ℕ) (mk : ManyIs claims m k) (claim customers : List ℕ) where
-  pub none_gathered : length claim ≡ most_trade_lines → length customers ≡ most_trade_lines → Gathering claims m k 0 claim customers
+module _ (claims : List ℕ) (m k : ℕ) (mk : ManyIs claims m k) (portions : List Portion) where
+  pub none_gathered : length portions ≡ most_trade_lines → Gathering claims m k 0 portions
   unfolding trade_lines below
-  none_gathered lc lu = record { claims = refl; contracts = refl; low = omega arith; claim_words = lc; customer_words = lu }
+  none_gathered l = record { claims = refl; contracts = refl; low = omega arith; long = l }
 
-  module _ (i : ℕ) (g : Gathering claims m k i claim customers) where
-    pub one_more_gathered : i < k → (j : ℕ) → NumberIs claims m i j
-        → Gathering claims m k (i + 1) (set claim i (get_or claims (j * 8 + 4) 0)) (set customers i (get_or claims (j * 8 + 3) 0))
+  module _ (i : ℕ) (g : Gathering claims m k i portions) where
+    -- line j, not filled yet
+    abbrev gathered_line : ℕ → Portion
+    gathered_line j = record { claim = get_or claims (j * 8 + 4) 0; customers = get_or claims (j * 8 + 3) 0; filled = 0 }
+
+    pub one_more_gathered : i < k → (j : ℕ) → NumberIs claims m i j → Gathering claims m k (i + 1) (set portions i (gathered_line j))
     one_more_gathered h j nj =
+        let low : i < length portions = omega (arith, mk.few, g.long) in
         record {
-          claims = column_more claims m i j (get_or claims (j * 8 + 4) 0) (λ l. l.claim) claim nj.is refl (omega (arith, mk.few, g.claim_words)) g.claims;
-          contracts = column_more claims m i j (get_or claims (j * 8 + 3) 0) (λ l. l.customers) customers nj.is refl (omega (arith, mk.few, g.customer_words)) g.contracts;
+          claims = column_more claims m i j (gathered_line j) (λ p. p.claim) (λ l. l.claim) portions nj.is refl low g.claims;
+          contracts = column_more claims m i j (gathered_line j) (λ p. p.customers) (λ l. l.customers) portions nj.is refl low g.contracts;
           low = omega arith;
-          claim_words = simp length-set g.claim_words;
-          customer_words = simp length-set g.customer_words;
+          long = length-set portions i (gathered_line j) ∙ g.long;
         }
 
-    pub all_gathered : k ≤ i → Gathered claims m claim customers k
+    pub all_gathered : k ≤ i → Gathered claims m portions k
     all_gathered h =
         let e : i ≡ k = omega (arith, g.low) in
         let e2 : i ≡ many_of claims m = e ∙ mk.is in
@@ -65,8 +72,7 @@ module _ (claims : List ℕ) (m k : ℕ) (mk : ManyIs claims m k) (claim custome
           claims = rw (← e) (g.claims ∙ ap (λ (j : ℕ). claims_of (trade_lines claims m j)) e2);
           contracts = rw (← e) (g.contracts ∙ ap (λ (j : ℕ). customers_of (trade_lines claims m j)) e2);
           many = mk.is;
-          claim_words = g.claim_words;
-          customer_words = g.customer_words;
+          long = g.long;
         }
 
 pub ruleset gather_laws = (many_read, number_read, none_gathered, one_more_gathered, all_gathered)
@@ -76,14 +82,14 @@ unfolding trade_lines
 trade_lines_long claims m k = as_many_below (λ i. line_in claims (number_at claims m i)) k
 
 -- what was gathered, of a history
-pub record LinesGathered (h : Header) (past : History) (m : ℕ) (claim customers : List ℕ) (k : ℕ) : Type 0 where
+pub record LinesGathered (h : Header) (past : History) (m : ℕ) (portions : List Portion) (k : ℕ) : Type 0 where
   pub many : k ≡ length (of_trade m (lines_of h past past))
-  pub claims : take k claim ≡ claims_of (of_trade m (lines_of h past past))
-  pub contracts : take k customers ≡ customers_of (of_trade m (lines_of h past past))
+  pub claims : claims_in (take k portions) ≡ claims_of (of_trade m (lines_of h past past))
+  pub contracts : customers_in (take k portions) ≡ customers_of (of_trade m (lines_of h past past))
 
-pub gathered_lines : (h : Header) (past : History) (claims : List ℕ) (lines m : ℕ) (claim customers : List ℕ) (k : ℕ) → m < most_trades → Lined h past claims lines
-    → Gathered claims m claim customers k → LinesGathered h past m claim customers k
-gathered_lines h past claims lines m claim customers k hm held g =
+pub gathered_lines : (h : Header) (past : History) (claims : List ℕ) (lines m : ℕ) (portions : List Portion) (k : ℕ) → m < most_trades → Lined h past claims lines
+    → Gathered claims m portions k → LinesGathered h past m portions k
+gathered_lines h past claims lines m portions k hm held g =
     record {
       many = g.many ∙ sym (trade_lines_long claims m (many_of claims m)) ∙ ap length (held.by_trade m hm);
       claims = g.claims ∙ ap claims_of (held.by_trade m hm);

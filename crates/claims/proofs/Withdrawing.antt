@@ -162,22 +162,22 @@ module _ (h : Header) (past : History) (claims : List ℕ) (lines : ℕ) (held :
 
 -- ---- the code's steps
 
-module _ (claims : List ℕ) (k : ℕ) (able : Withdrawable claims k) (m : ℕ) (em : (m ≡ get_or claims (k * 8 + 0) 0) × (m < 4294967296))
-    (x : ℕ) (ex : (x ≡ get_or claims (k * 8 + 5) 0) × (x < 4294967296)) where
+module _ (claims : List ℕ) (k : ℕ) (able : Withdrawable claims k) (m : ℕ) (em : m ≡ get_or claims (k * 8 + 0) 0)
+    (x : ℕ) (ex : x ≡ get_or claims (k * 8 + 5) 0) where
   pub sender_counted : 1 ≤ x
-  sender_counted = omega (arith, ex.0, able.from_one)
+  sender_counted = omega (arith, ex, able.from_one)
 
   pub again_word_low : again_from + (m * most_exchanges + (x - 1)) < line_words
-  again_word_low = omega (arith, em.0, ex.0, able.trade, able.to_most)
+  again_word_low = omega (arith, em, ex, able.trade, able.to_most)
 
   pub withdrawn_so : (now : ℕ) → set claims (again_from + (m * most_exchanges + (x - 1))) (now + 1) ≡ withdrawn_in claims k now
   unfolding withdrawn_in
-  withdrawn_so now = rw (em.0, ex.0)
+  withdrawn_so now = rw (em, ex)
 
 module _ (r : Rec) (claims : List ℕ) (traded exchanges lines : ℕ) (pl : FitsClaims r claims traded exchanges lines) (kind : r.kind ≡ cancellation_kind)
-    (k : ℕ) (ek : (k ≡ word r 0) × (k < 4294967296)) (fi : Filing claims lines) where
+    (k : ℕ) (ek : k ≡ word r 0) (fi : Filing claims lines) where
   order_low : k < lines
-  order_low = omega (arith, ek.0, pl.withdrawn kind)
+  order_low = omega (arith, ek, pl.withdrawn kind)
 
   pub order_withdrawable : Withdrawable claims k
   order_withdrawable =
@@ -198,7 +198,7 @@ module _ (r : Rec) (claims : List ℕ) (traded exchanges lines : ℕ) (pl : Fits
         filing = filing_kept claims (again_of claims k) (r.time + 1) (omega arith) lines fi;
         so =
             λ h sizes e past arrived is closes rd tv held.
-            rw (← rd.time) (lined_withdrawn h past claims lines held fi e k (rd.kind ∙ kind) (sym (rd.fields 0) ∙ sym ek.0) order_low);
+            rw (← rd.time) (lined_withdrawn h past claims lines held fi e k (rd.kind ∙ kind) (sym (rd.fields 0) ∙ sym ek) order_low);
       })
 
 pub placed_in_day : (r : Rec) (claims : List ℕ) (traded exchanges lines : ℕ) → FitsClaims r claims traded exchanges lines → r.time ≤ last_time

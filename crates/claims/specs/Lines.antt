@@ -10,6 +10,8 @@ use Rattle.rules.specs.Record.{Event, satisfaction, is_satisfaction, satisfactio
 use Rattle.rules.specs.Journal.{History, Happened, count, nth, taken_back}
 use Rattle.rules.specs.Due.{Line, lines_of, of_trade, claims_of, customers_of, due}
 use Rattle.rules.proofs.Journals.{Arrived}
+use Rattle.fairness.specs.Lines.{claims_in, customers_in}
+use Rattle.fairness.specs.declared.Portion.{Portion}
 use Rattle.rules.proofs.Naming.{named}
 use Rattle.rows.specs.Rows.{Reads, word, SatisfactionOk}
 use Rattle.rows.specs.declared.Rec.{Rec}
@@ -203,20 +205,18 @@ pub record NumberIs (claims : List ℕ) (m i r : ℕ) : Type 0 where
   pub low : r < most_satisfaction_orders
 
 -- the first i of them
-pub record Gathering (table : List ℕ) (m k i : ℕ) (claim customers : List ℕ) : Type 0 where
-  pub claims : take i claim ≡ claims_of (trade_lines table m i)
-  pub contracts : take i customers ≡ customers_of (trade_lines table m i)
+pub record Gathering (table : List ℕ) (m k i : ℕ) (portions : List Portion) : Type 0 where
+  pub claims : claims_in (take i portions) ≡ claims_of (trade_lines table m i)
+  pub contracts : customers_in (take i portions) ≡ customers_of (trade_lines table m i)
   pub low : i ≤ k
-  pub claim_words : length claim ≡ most_trade_lines
-  pub customer_words : length customers ≡ most_trade_lines
+  pub long : length portions ≡ most_trade_lines
 
-pub record Gathered (table : List ℕ) (m : ℕ) (claim customers : List ℕ) (k : ℕ) : Type 0 where
+pub record Gathered (table : List ℕ) (m : ℕ) (portions : List Portion) (k : ℕ) : Type 0 where
   pub few : k ≤ most_trade_lines
-  pub claims : take k claim ≡ claims_of (trade_lines table m (many_of table m))
-  pub contracts : take k customers ≡ customers_of (trade_lines table m (many_of table m))
+  pub claims : claims_in (take k portions) ≡ claims_of (trade_lines table m (many_of table m))
+  pub contracts : customers_in (take k portions) ≡ customers_of (trade_lines table m (many_of table m))
   pub many : k ≡ many_of table m
-  pub claim_words : length claim ≡ most_trade_lines
-  pub customer_words : length customers ≡ most_trade_lines
+  pub long : length portions ≡ most_trade_lines
 
 pub record DueIs (claims trades : List ℕ) (m r : ℕ) : Type 0 where
   pub so : (h : Header) (past : History) (shown : List ℕ) (traded lines : ℕ) → m < traded → m < most_trades → Traded h past trades shown traded

@@ -9,8 +9,9 @@ ghost use Rattle.claims.specs.Facts.{facts_of};
 ghost use Rattle.claims.specs.Lines.{many_of, Filing, Fileable, Filed, Cancellable, cancelled_in, Withdrawable, withdrawn_in, FitsClaims, ClaimsStep, Findable, ManyIs, NumberIs, Gathered, DueIs};
 
 use counted::{SatisfactionOrder, Trade};
+use fairness::Portion;
 use limits::Exchanges;
-use reasons::Facts;
+use reasons::{Facts, Reason};
 use rows::{Rec, Seat, TradeLines};
 use trades::{Kept, Shown, Snap, Trades};
 
@@ -57,6 +58,7 @@ impl Line {
 }
 
 // What an order of exchange y + 1 for trade m is judged by.
+#[tactic(auto, unfolding(crate::specs::Facts::facts_of))]
 fn facts_at(
     trades: &[u32; Trades::WORDS],
     shown: &[u32; Shown::WORDS],
@@ -101,13 +103,14 @@ fn file_line(claims: &mut [u32; Line::WORDS], n: usize, m: usize, row: [u32; 8])
     let many = claims[part + Line::MANY];
     let sum = claims[part + Line::SUM];
     rows::put_row(claims, n, row);
-    claims[part + rows::index(many)] = rows::narrow(n);
+    claims[part + many as usize] = n as u32;
     claims[part + Line::MANY] = many + 1;
     claims[part + Line::SUM] = sum + row[Line::CLAIM];
 }
 
 // "A cancellation in time makes reason 14 .. with claim 0; a late one cancels and changes nothing." A line with a reason judged before 14
 // has no claim to lose.
+#[tactic(auto, using(crate::proofs::Cancelling::cancel_laws))]
 fn cancel_line(claims: &mut [u32; Line::WORDS], n: usize, close: u32, time: u32)
     requires { Cancellable claims.old n }
     ensures { claims.new ≡ cancelled_in claims.old n close time }
@@ -116,7 +119,7 @@ fn cancel_line(claims: &mut [u32; Line::WORDS], n: usize, close: u32, time: u32)
     if !reasons::in_time(claims[at + Line::TIME], close, time) {
         return;
     }
-    let sum = Line::TRADES + rows::index(claims[at + Line::TRADE]) * Line::PART + Line::SUM;
+    let sum = Line::TRADES + claims[at + Line::TRADE] as usize * Line::PART + Line::SUM;
     let left = claims[sum] - claims[at + Line::CLAIM];
     let why = reasons::named(claims[at + Line::REASON]);
     claims[sum] = left;
@@ -125,13 +128,14 @@ fn cancel_line(claims: &mut [u32; Line::WORDS], n: usize, close: u32, time: u32)
 }
 
 // "A claim's record must now remember its cancellation time": what the second is judged by. "The first keeps the reason it has".
+#[tactic(auto, using(crate::proofs::Withdrawing::withdraw_laws))]
 fn keep_cancellation(claims: &mut [u32; Line::WORDS], n: usize, time: u32)
     requires { Withdrawable claims.old n × (time ≤ last_time) }
     ensures { claims.new ≡ withdrawn_in claims.old n time }
 {
     let at = n * 8;
-    let m = rows::index(claims[at + Line::TRADE]);
-    let y = rows::index(claims[at + Line::SENDER]) - 1;
+    let m = claims[at + Line::TRADE] as usize;
+    let y = claims[at + Line::SENDER] as usize - 1;
     claims[Line::AGAIN + (m * 8 + y)] = time + 1;
 }
 
@@ -152,15 +156,15 @@ fn keep_order(
     ensures { ClaimsStep r seat.home seat.exchanges seat.close trades.now shown.now traded claims.old lines claims.new (lines + 1) }
 {
     let row = r.row;
-    let m = rows::index(row[0]);
-    let y = rows::index(row[1]) - 1;
+    let m = row[0] as usize;
+    let y = row[1] as usize - 1;
     let time = r.time;
     let again = claims[Line::AGAIN + (m * 8 + y)];
     let facts = facts_at(
         trades, shown, m, y, seat.home, seat.close, row[2], time, again,
     );
     let customers = facts.customers;
-    let why = reasons::reason_of(facts);
+    let why = Reason::stored(reasons::reason_of(facts));
     let trade_size = trades[m * 8 + Kept::SIZE];
     let claim = reasons::claim_of(
         why,
@@ -189,28 +193,30 @@ pub fn keep_claim(
     requires filing { Filing claims.old lines }
     ensures { ClaimsStep r seat.home seat.exchanges seat.close trades.now shown.now traded claims.old lines claims.new result }
 {
-    let kind = r.kind;
-    if kind == Rec::SATISFACTION {
-        keep_order(claims, trades, shown, lines, traded, seat, r);
-        return lines + 1;
+    match r.kind {
+        Rec::SATISFACTION => {
+            keep_order(claims, trades, shown, lines, traded, seat, r);
+            lines + 1
+        }
+        Rec::NAMING => {
+            cancel_line(claims, r.row[0] as usize, seat.close, r.time);
+            lines
+        }
+        Rec::CANCELLATION => {
+            keep_cancellation(claims, r.row[0] as usize, r.time);
+            lines
+        }
+        _ => lines,
     }
-    if kind == Rec::NAMING {
-        cancel_line(claims, rows::index(r.row[0]), seat.close, r.time);
-        return lines;
-    }
-    if kind == Rec::CANCELLATION {
-        keep_cancellation(claims, rows::index(r.row[0]), r.time);
-        return lines;
-    }
-    lines
 }
 
 // How many lines trade m has.
+#[tactic(auto, using(crate::proofs::TradeLines::gather_laws))]
 pub fn lines_of(claims: &[u32; Line::WORDS], m: usize) -> usize
     requires { Findable claims.now m }
     ensures { ManyIs claims.now m result }
 {
-    rows::index(claims[Line::TRADES + m * Line::PART + Line::MANY])
+    claims[Line::TRADES + m * Line::PART + Line::MANY] as usize
 }
 
 // The number of line i of trade m.
@@ -219,39 +225,41 @@ pub fn line_of(claims: &[u32; Line::WORDS], m: usize, i: usize) -> usize
     requires i_bound { i < many_of claims.now m }
     ensures { NumberIs claims.now m i result }
 {
-    rows::index(claims[Line::TRADES + m * Line::PART + i])
+    claims[Line::TRADES + m * Line::PART + i] as usize
 }
 
 // The claims and the customer contracts of trade m's lines, in their order.
 pub fn gather(
     claims: &[u32; Line::WORDS],
     m: usize,
-    claim: &mut [u32; TradeLines::MOST],
-    customers: &mut [u32; TradeLines::MOST],
+    portions: &mut [Portion; TradeLines::MOST],
 ) -> usize
     requires findable { Findable claims.now m }
-    requires claim_len { (length claim.old ≡ most_trade_lines) × (length customers.old ≡ most_trade_lines) }
-    ensures { Gathered claims.now m claim.new customers.new result }
+    requires portions_len { length portions.old ≡ most_trade_lines }
+    ensures { Gathered claims.now m portions.new result }
 {
     let k = lines_of(claims, m);
-    let mut i: usize = 0;
-    while i < k {
+    for i in 0..k {
         let line = line_of(claims, m, i);
-        claim[i] = claims[line * 8 + Line::CLAIM];
-        customers[i] = claims[line * 8 + Line::CUSTOMERS];
-        i += 1;
+        portions[i] = Portion {
+            claim: claims[line * 8 + Line::CLAIM],
+            customers: claims[line * 8 + Line::CUSTOMERS],
+            filled: 0,
+        };
     }
     k
 }
 
 // "the lesser of trade size and the sum of claims; else the sum of claims"
+#[tactic(auto, using(crate::proofs::Due::due_laws))]
 pub fn due_total(claims: &[u32; Line::WORDS], trades: &[u32; Trades::WORDS], m: usize) -> u32
     requires { m < most_trades }
     ensures { DueIs claims.now trades.now m result }
 {
     let sum = claims[Line::TRADES + m * Line::PART + Line::SUM];
     if trades[m * 8 + Kept::CAPPED] == 1 {
-        return rows::lesser(trades[m * 8 + Kept::SIZE], sum);
+        trades[m * 8 + Kept::SIZE].min(sum)
+    } else {
+        sum
     }
-    sum
 }

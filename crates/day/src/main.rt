@@ -1,9 +1,6 @@
 // "The day program reads a journal on standard input. It prints `refused 2 at 0` (number, place), or a list".
 #![tactic(auto)]
 
-use feed::{Input, Room};
-use journal::Rewritten;
-
 #[derive(Drop)]
 struct List;
 
@@ -13,11 +10,9 @@ impl List {
 }
 
 fn main(rt: HostRuntime) {
-    let mut journal = [0u8; Room::JOURNAL_INPUT];
-    let mut list = [0u8; List::ROOM];
-    let Input::Taken(n) = feed::standard_input(&rt, &mut journal) else {
-        return;
-    };
-    let answered: Rewritten = answers::print_day(&journal[..n], &mut list);
-    feed::answer(&rt, answered, &list, &mut rt.stdout());
+    feed::with_journal(&rt, |journal| {
+        let mut list = [0u8; List::ROOM];
+        let answered = answers::print_day(journal, &mut list);
+        feed::answer(&rt, answered, &list, &mut rt.stdout());
+    });
 }

@@ -1,11 +1,12 @@
 -- Laws of the functions that are given numbers: what the entries answer as one number.
 use mathlib.Core.Path.{◌≡◌, refl, sym, ap, subst, ◌∙◌}
+use mathlib.Core.Logic.{◌⊎◌, inl, inr}
 use mathlib.Core.Bool.{true, false}
 use mathlib.Core.List.{List, [], ◌∷◌, ◌++◌, append-nil}
 use Prim.Native.Nat.{ℕ, ◌+◌, ◌*◌, ◌-◌, ◌%◌, ◌<◌, ◌≤◌}
 use native.Mathlib.Nat.{zero-add}
 use native.Mathlib.Omega.{arith}
-use lib.ListN.{length, get_or, take, drop, set, replicate, length-append, length-drop, length-set, drop_of_length-le, length-replicate, get_or-replicate, get_or-append}
+use lib.ListN.{length, get_or, take, drop, set, replicate, length-append, length-drop, length-set, length-replicate, get_or-replicate, get_or-append}
 use lib.Seq.{length-take-le, drop-drop, take_at, take-append-add, ext_get_or, get_or-take, get_or-drop}
 use borrow.Author.Tests.{le-leb, lt-leb, eq-eqb, ne_eqb}
 use Rattle.std.specs.Prelude.{◌==◌}
@@ -20,8 +21,11 @@ use Rattle.rules.proofs.Answers.{went, demand_met, demand_missed}
 use Rattle.rules.proofs.Records.{follows_none, follows_seven_each, batch_has_two, count_counts, RecordIn}
 use Rattle.rules.proofs.Journals.{record_in_range}
 use Rattle.text.specs.Lent.{as_answer}
-use Rattle.text.specs.declared.Written.{Written}
-use Rattle.text.specs.declared.Written.TheVariants.{To, Refused}
+use Rattle.std.specs.Prelude.{Result, Ok, Err}
+use Rattle.rows.specs.Refusals.{number_of, refused_as}
+use Rattle.rows.specs.declared.Refusal.{Refusal}
+use Rattle.rows.specs.declared.Refusal.TheVariants.{OutputTooShort}
+use Rattle.rows.specs.declared.Refused.{Refused}
 use Rattle.number.proofs.Groups.{to_end}
 use Rattle.fields.proofs.Fitting.{eight_at_most}
 use Rattle.header.specs.Head.{as_header, WritesHead}
@@ -29,23 +33,21 @@ use Rattle.header.specs.declared.Head.{Head}
 use Rattle.record.specs.Taken.{recorded_as, entry_of}
 use Rattle.record.specs.declared.Taken.{Taken}
 use Rattle.alone.specs.Alone.{fields_read, ReadAlone, WritesRecord}
-use Rattle.alone.proofs.Copies.{copied_lent}
-use Rattle.rows.specs.Rows.{Copied}
 use Rattle.given.specs.Given.{head_from}
-use Rattle.desk.specs.Exports.{refusal_unit, code_of, Gives}
+use Rattle.desk.specs.Exports.{refusal_unit, code_of, Gives, rewritten_as}
 use Rattle.desk.specs.Records.{wrong_count, write_header_from, write_record_from, read_record_from, handed_out, behind_three}
 use Rattle.desk.proofs.Exports.{gives_refusal}
 
 -- ---- the code of a writer's answer
 
-module _ (w : Written) where
-  pub code_written : (n : ℕ) → w ≡ To n → n % refusal_unit ≡ code_of (as_answer w)
-  code_written n e = rw e
+-- "A writer's place is always 0"
+abbrev pub at_no_place : Result ℕ Refusal → Result ℕ Refused
+at_no_place (Ok n) = Ok n
+at_no_place (Err q) = Err (record { refusal = q; place = 0 })
 
-  pub code_refused : (n r : ℕ) → w ≡ Refused n → r ≡ code_of (refused n 0) → r ≡ code_of (as_answer w)
-  code_refused n r e g = g ∙ rw e
-
-pub ruleset written_laws = (code_written, code_refused)
+pub code_written : (w : Result ℕ Refusal) → code_of (rewritten_as (at_no_place w)) ≡ code_of (as_answer w)
+code_written (Ok n) = refl
+code_written (Err q) = refl
 
 -- ---- the writers
 
@@ -54,7 +56,7 @@ module _ (ns out : List ℕ) (r : ℕ) where
   unfolding write_header_from ◌>>=◌
   header_miscounted h g = gives_refusal _ wrong_count 0 (rw (demand_missed _ wrong_count no_place (ne_eqb (length ns) 19 h))) out r g
 
-  pub header_written : length ns ≡ 19 → (head : Head) → head ≡ head_from ns → (w : Written) (after : List ℕ) → WritesHead head out w after
+  pub header_written : length ns ≡ 19 → (head : Head) → head ≡ head_from ns → (w : Result ℕ Refusal) (after : List ℕ) → WritesHead head out w after
       → r ≡ code_of (as_answer w) → Gives (write_header_from ns (length out)) out r after
   unfolding write_header_from ◌>>=◌
   header_written h head eh w after wrote g =
@@ -64,45 +66,32 @@ module _ (ns out : List ℕ) (r : ℕ) where
   unfolding write_record_from ◌>>=◌
   record_miscounted h g = gives_refusal _ wrong_count 0 (rw (demand_missed _ wrong_count no_place h)) out r g
 
-  pub record_too_few : length ns < 30 → r ≡ code_of (refused wrong_count 0) → Gives (write_record_from ns (length out)) out r out
-  record_too_few h g = record_miscounted (rw (lt-leb 30 (length ns) h)) g
+  pub record_wrongly_counted : (length ns < 30) ⊎ ((30 ≤ length ns) × (248 < length ns)) → r ≡ code_of (refused wrong_count 0)
+      → Gives (write_record_from ns (length out)) out r out
+  record_wrongly_counted (inl few) g = record_miscounted (rw (lt-leb 30 (length ns) few)) g
+  record_wrongly_counted (inr many) g = record_miscounted (rw (le-leb 30 (length ns) many.0, lt-leb (length ns) 248 many.1)) g
 
   module _ (many : 30 ≤ length ns) where
-    pub record_too_many : 248 < length ns → r ≡ code_of (refused wrong_count 0) → Gives (write_record_from ns (length out)) out r out
-    record_too_many h g = record_miscounted (rw (le-leb 30 (length ns) many, lt-leb (length ns) 248 h)) g
-
     pub record_written : length ns ≤ 248 → (head : Head) → head ≡ head_from ns
-        → (w : Written) (after : List ℕ) → WritesRecord head (get_or ns 19 0) (get_or ns 20 0) (get_or ns 21 0) (take (length ns - 22) (drop 22 ns)) out w after
+        → (w : Result ℕ Refusal) (after : List ℕ) → WritesRecord head (get_or ns 19 0) (get_or ns 20 0) (get_or ns 21 0) (take (length ns - 22) (drop 22 ns)) out w after
         → r ≡ code_of (as_answer w) → Gives (write_record_from ns (length out)) out r after
     unfolding write_record_from ◌>>=◌
     record_written few head eh w after wrote g =
         rw (demand_met (within 30 248 (length ns)) wrong_count no_place (rw (le-leb 30 (length ns) many, le-leb (length ns) 248 few)), ← eh, ← to_end ns 22)
         (record { code = g ∙ ap code_of wrote.answer; lent = wrote.lent })
 
-pub ruleset writer_laws = (header_miscounted, header_written, record_too_few, record_too_many, record_written)
+pub ruleset writer_laws = (header_miscounted, header_written, record_wrongly_counted, record_written)
 
 -- ---- the words of a record that was read
 
 module _ (kind : ℕ) (fields : List ℕ) where
-  pub all_handed : kind ≡ batch_kind → (n : ℕ) → (n ≡ get_or fields 1 0) × (n < 4294967296) → 2 + n * 7 ≡ handed_out kind fields
-  all_handed b n en = sym (rw (eq-eqb kind batch_kind b, en.0))
+  pub all_handed : kind ≡ batch_kind → (n : ℕ) → n ≡ get_or fields 1 0 → 2 + n * 7 ≡ handed_out kind fields
+  all_handed b n en = sym (rw (eq-eqb kind batch_kind b, en))
 
   pub eight_handed : (kind ≡ batch_kind → ⊥) → 8 ≡ handed_out kind fields
   eight_handed nb = sym (rw (ne_eqb kind batch_kind nb))
 
 pub ruleset handed_laws = (all_handed, eight_handed)
-
--- some fields copied behind three words
-module _ (fields : List ℕ) (count : ℕ) (out part : List ℕ) where
-  pub put_behind : count ≤ length fields → Copied fields count (take (length out - 3) (drop 3 out)) part
-      → take 3 out ++ (part ++ drop (length out - 3) (drop 3 out)) ≡ behind_three fields count out
-  unfolding lent_after
-  put_behind there c =
-      let long : length (take count fields) ≡ count = length-take-le count fields there in
-      let copied : part ≡ take count fields ++ drop (length (take count fields)) (drop 3 out) =
-      copied_lent fields count (drop 3 out) part there (subst (λ l. Copied fields count l part) (to_end out 3) c) in
-      let none : drop (length out - 3) (drop 3 out) ≡ [] = drop_of_length-le (drop 3 out) {i = length out - 3} (omega (arith, length-drop 3 out)) in
-      rw (none, append-nil part, copied, long, drop-drop count 3 out)
 
 three_set : (l : List ℕ) (a b c : ℕ) → 3 ≤ length l → set (set (set l 0 a) 1 b) 2 c ≡ a ∷ b ∷ c ∷ drop 3 l
 three_set (x ∷ y ∷ z ∷ l) a b c h = refl
@@ -117,9 +106,11 @@ module _ (used kind elapsed : ℕ) (fields : List ℕ) (count : ℕ) (out : List
   many : length words ≡ 3 + count
   many = omega (arith, length-take-le count fields there)
 
-  pub record_short : length out < 3 + count → (r : ℕ) → r ≡ code_of (refused output_too_short 0) → Gives (into (length out) words) out r out
+  pub record_short : length out < 3 + count → (q : Refused) → q ≡ record { refusal = OutputTooShort; place = 0 } → (r : ℕ) → r ≡ code_of (refused_as q)
+      → Gives (into (length out) words) out r out
   unfolding into ◌>>=◌
-  record_short h r g = gives_refusal _ output_too_short 0 (rw (demand_missed _ output_too_short no_place (lt-leb (length words) (length out) (omega (arith, many))))) out r g
+  record_short h q e r g =
+      gives_refusal _ output_too_short 0 (rw (demand_missed _ output_too_short no_place (lt-leb (length words) (length out) (omega (arith, many))))) out r (g ∙ rw e)
 
   pub record_put : 3 + count ≤ length out → (after : List ℕ) → after ≡ behind_three fields count (set (set (set out 0 (used % refusal_unit)) 1 kind) 2 elapsed)
       → Gives (into (length out) words) out ((3 + count) % refusal_unit) after
@@ -140,7 +131,7 @@ word_there l count i h r = omega arith
 pub three_stored : (l last : List ℕ) (a b c : ℕ) → length last ≡ length (set (set (set l 0 a) 1 b) 2 c) → length last ≡ length l
 three_stored l last a b c e = e ∙ length-set (set (set l 0 a) 1 b) 2 c ∙ length-set (set l 0 a) 1 b ∙ length-set l 0 a
 
-pub ruleset put_laws = (put_behind, record_short, record_put, word_there, three_stored)
+pub ruleset put_laws = (record_short, record_put, word_there, three_stored)
 
 -- ---- the reader
 
@@ -211,24 +202,25 @@ module _ (ns bytes out : List ℕ) where
   unfolding read_record_from ◌>>=◌
   reading_miscounted h r g = gives_refusal _ wrong_count 0 (rw (demand_missed _ wrong_count no_place (ne_eqb (length ns) 20 h))) out r g
 
-  module _ (h : length ns ≡ 20) (head : Head) (eh : head ≡ head_from ns) (t : Taken) (after : List ℕ) (ra : ReadAlone bytes head (get_or ns 19 0) (replicate 226 0) t after) where
-    reads : read_record (as_header (head_from ns)) (get_or ns 19 0) bytes ≡ recorded_as 0 bytes t after
-    reads = subst (λ (x : Head). read_record (as_header x) (get_or ns 19 0) bytes ≡ recorded_as 0 bytes t after) eh ra.reads
+  module _ (h : length ns ≡ 20) (head : Head) (eh : head ≡ head_from ns) (answer : Result Taken Refused) (after : List ℕ)
+      (ra : ReadAlone bytes head (get_or ns 19 0) (replicate 226 0) answer after) where
+    reads : read_record (as_header (head_from ns)) (get_or ns 19 0) bytes ≡ recorded_as 0 bytes answer after
+    reads = subst (λ (x : Head). read_record (as_header x) (get_or ns 19 0) bytes ≡ recorded_as 0 bytes answer after) eh ra.reads
 
-    pub reading_refused : (t.no ≡ 0 → ⊥) → (r : ℕ) → r ≡ code_of (refused t.no t.place) → Gives (read_record_from ns bytes (length out)) out r out
+    pub reading_refused : (q : Refused) → answer ≡ Err q → (r : ℕ) → r ≡ code_of (refused_as q) → Gives (read_record_from ns bytes (length out)) out r out
     unfolding read_record_from recorded_as ◌>>=◌
-    reading_refused z r g =
-        gives_refusal _ t.no t.place
-        (rw (demand_met _ wrong_count no_place (eq-eqb (length ns) 20 h), reads, ne_eqb t.no 0 z, zero-add))
+    reading_refused q e r g =
+        gives_refusal _ (number_of q.refusal) q.place
+        (rw (demand_met _ wrong_count no_place (eq-eqb (length ns) 20 h), reads, e, zero-add))
         out r g
 
-    module _ (z : t.no ≡ 0) where
+    module _ (t : Taken) (z : answer ≡ Ok t) where
       abbrev entry : Entry
       entry = entry_of t after
 
       found : read_record (as_header (head_from ns)) (get_or ns 19 0) bytes ≡ ok (record { entry = entry; next = onward (record { place = 0; rest = bytes }) t.used })
       unfolding recorded_as
-      found = reads ∙ rw (eq-eqb t.no 0 z)
+      found = reads ∙ rw z
 
       holds : RecordIn (as_header (head_from ns)) (happens (get_or ns 19 0) entry)
       holds = read_in_range (as_header (head_from ns)) (get_or ns 19 0) bytes _ found

@@ -1,11 +1,12 @@
 -- What an exported function answers: one number that holds a refusal and its place, or how much was written.
-use Rattle.std.specs.Prelude.{◌≡◌, List, [], ◌∷◌, ℕ, ◌+◌, ◌*◌, ◌%◌}
+use Rattle.std.specs.Prelude.{◌≡◌, List, [], ◌∷◌, ℕ, ◌+◌, ◌*◌, ◌%◌, Result, Ok, Err}
 use Rattle.rules.specs.Basics.{Answer, refused, ok, ◌>>=◌}
 use Rattle.rules.specs.Totals.{Totals, day_totals}
 use Rattle.rules.specs.Writing.{into, lent_after}
 use Rattle.text.specs.Lent.{counted}
-use Rattle.journal.specs.declared.Rewritten.{Rewritten}
-use Rattle.journal.specs.declared.Rewritten.TheVariants.{Written, Unwritten}
+use Rattle.rows.specs.Refusals.{refused_as}
+use Rattle.rows.specs.declared.Refused.{Refused}
+use Rattle.journal.specs.declared.DayTotals.{DayTotals}
 
 -- 2^32
 abbrev pub refusal_unit : ℕ
@@ -38,6 +39,10 @@ write_totals bytes room = do
   t ← day_totals bytes
   into room (totals_words t)
 
-abbrev pub rewritten_as : Rewritten → Answer ℕ
-rewritten_as (Written bytes) = ok bytes
-rewritten_as (Unwritten number place) = refused number place
+-- the same of the totals in memory
+abbrev pub words_of : DayTotals → List ℕ
+words_of t = t.sent ∷ t.filled ∷ t.cancelled ∷ t.pending ∷ []
+
+abbrev pub rewritten_as : Result ℕ Refused → Answer ℕ
+rewritten_as (Ok bytes) = ok bytes
+rewritten_as (Err r) = refused_as r

@@ -1,35 +1,43 @@
 // The desk's functions for other languages: slices in, lent memory, one number out. desk_c exports them, and include/hasurenta.h declares them.
 #![tactic(auto)]
 
-ghost use Rattle.std.specs.Prelude.{◌≡◌, [], ◌∷◌, ◌+◌, ◌%◌, ◌≤◌, length, take};
+ghost use Rattle.std.specs.Prelude.{◌≡◌, ◌∷◌, ◌+◌, ◌%◌, ◌≤◌, length, take};
 ghost use Rattle.rules.specs.Basics.{refused};
 ghost use Rattle.limits.specs.Limits.{batch_words};
 ghost use Rattle.rules.specs.Journal.{journal};
 ghost use Rattle.rules.specs.SheetCheck.{check_sheet};
 ghost use Rattle.rules.specs.Writing.{into, rewrite_journal, write_sheet, write_day};
+ghost use Rattle.rows.specs.Refusals.{refused_as};
 ghost use Rattle.text.specs.Lent.{as_answer};
-ghost use Rattle.desk.specs.Exports.{refusal_unit, code_of, unwritten, Gives, write_totals, rewritten_as};
+ghost use Rattle.desk.specs.Exports.{refusal_unit, code_of, unwritten, Gives, words_of, write_totals, rewritten_as};
 ghost use Rattle.desk.specs.Records.{write_header_from, write_record_from, read_record_from, handed_out, behind_three};
 
 use given::Given;
-use journal::{DayTotals, Rewritten, Verdict};
+use journal::DayTotals;
 use limits::Batch;
-use rows::{Code, Rec, Refusal};
-use said::Checked;
-use text::Written;
+use record::Taken;
+use rows::{Code, Rec, Refusal, Refused};
 
+// Of any number: `Handed::WRONG_COUNT` is none of the paper's refusals.
 fn refusal(no: u32, place: usize) -> u64
     ensures { result ≡ code_of (refused no place) }
 {
-    rows::wide(no) * Code::UNIT + place as u64 % Code::UNIT
+    u64::from(no) * Code::UNIT + place as u64 % Code::UNIT
 }
 
-fn coded(answer: Rewritten) -> u64
+// A refusal as one number, refusal × 2^32 + place.
+fn told(fault: Refused) -> u64
+    ensures { result ≡ code_of (refused_as fault) }
+{
+    refusal(fault.refusal.number(), fault.place)
+}
+
+fn coded(answer: Result<usize, Refused>) -> u64
     ensures { result ≡ code_of (rewritten_as answer) }
 {
     match answer {
-        Rewritten::Written { bytes } => bytes as u64 % Code::UNIT,
-        Rewritten::Unwritten { no, place } => refusal(no, place),
+        Ok(count) => count as u64 % Code::UNIT,
+        Err(fault) => told(fault),
     }
 }
 
@@ -37,22 +45,24 @@ pub fn hasurenta_journal(j: &[u8]) -> u64
     ensures { result ≡ code_of (unwritten (journal j.now)) }
 {
     match journal::check(j) {
-        Verdict::Accepted { records: _ } => 0,
-        Verdict::Refused { no, place } => refusal(no, place),
+        Ok(_) => 0,
+        Err(fault) => told(fault),
     }
 }
 
 // The four words, or 9 and nothing.
-fn put_totals(out: &mut [u64], sent: u64, filled: u64, cancelled: u64, pending: u64) -> u64
-    ensures { Gives (into (length out.old) (sent ∷ filled ∷ cancelled ∷ pending ∷ [])) out.old result out.new }
+fn put_totals(out: &mut [u64], totals: DayTotals) -> u64
+    ensures { Gives (into (length out.old) (words_of totals)) out.old result out.new }
 {
     if out.len() < Handed::TOTALS {
-        return refusal(Refusal::OUTPUT_TOO_SHORT, 0);
+        return told(Refusal::OutputTooShort.at(0));
     }
-    out[0] = sent;
-    out[1] = filled;
-    out[2] = cancelled;
-    out[3] = pending;
+    out[..Handed::TOTALS].copy_from_slice(&[
+        totals.sent,
+        totals.filled,
+        totals.cancelled,
+        totals.pending,
+    ]);
     Handed::TOTALS as u64
 }
 
@@ -60,13 +70,8 @@ pub fn hasurenta_totals(j: &[u8], out: &mut [u64]) -> u64
     ensures { Gives (write_totals j.now (length out.old)) out.old result out.new }
 {
     match journal::totals(j) {
-        DayTotals::Totals {
-            sent,
-            filled,
-            cancelled,
-            pending,
-        } => put_totals(out, sent, filled, cancelled, pending),
-        DayTotals::NoTotals { no, place } => refusal(no, place),
+        Ok(totals) => put_totals(out, totals),
+        Err(fault) => told(fault),
     }
 }
 
@@ -86,8 +91,8 @@ pub fn hasurenta_check(j: &[u8], sheet: &[u8]) -> u64
     ensures { result ≡ code_of (unwritten (check_sheet j.now sheet.now)) }
 {
     match answers::check_sheet(j, sheet) {
-        Checked::Accepted => 0,
-        Checked::Refused { no, place } => refusal(no, place),
+        Ok(()) => 0,
+        Err(fault) => told(fault),
     }
 }
 
@@ -135,13 +140,11 @@ impl Handed {
     pub const WRONG_COUNT: u32 = 98;
 }
 
-fn written(answer: Written) -> u64
+// "A writer's place is always 0"
+fn written(answer: Result<usize, Refusal>) -> u64
     ensures { result ≡ code_of (as_answer answer) }
 {
-    match answer {
-        Written::To(bytes) => bytes as u64 % Code::UNIT,
-        Written::Refused(no) => refusal(no, 0),
-    }
+    coded(answer.map_err(|fault| fault.at(0)))
 }
 
 pub fn hasurenta_write_header(numbers: &[u32], out: &mut [u8]) -> u64
@@ -157,10 +160,7 @@ pub fn hasurenta_write_header(numbers: &[u32], out: &mut [u8]) -> u64
 pub fn hasurenta_write_record(numbers: &[u32], out: &mut [u8]) -> u64
     ensures { Gives (write_record_from numbers.now (length out.old)) out.old result out.new }
 {
-    if numbers.len() < Handed::RECORD_LEAST {
-        return refusal(Handed::WRONG_COUNT, 0);
-    }
-    if Handed::RECORD_MOST < numbers.len() {
+    if numbers.len() < Handed::RECORD_LEAST || Handed::RECORD_MOST < numbers.len() {
         return refusal(Handed::WRONG_COUNT, 0);
     }
     let head = given::head_of(numbers);
@@ -179,7 +179,7 @@ fn handed_out(kind: u32, fields: &[u32; Batch::WORDS]) -> usize
     ensures { result ≡ handed_out kind fields.now }
 {
     if kind == Rec::BATCH {
-        return Batch::FRONT + rows::index(fields[1]) * Batch::QUOTE;
+        return Batch::FRONT + fields[1] as usize * Batch::QUOTE;
     }
     Given::FIELDS
 }
@@ -189,27 +189,20 @@ fn put_fields(fields: &[u32], count: usize, out: &mut [u32])
     requires { (count ≤ length fields.now) × (3 + count ≤ length out.old) }
     ensures { out.new ≡ behind_three fields.now count out.old }
 {
-    rows::copy_first(fields, count, &mut out[Handed::WORDS_FRONT..]);
+    out[Handed::WORDS_FRONT..Handed::WORDS_FRONT + count].copy_from_slice(&fields[..count]);
 }
 
 // Bytes used, kind, milliseconds and so many fields, or 9 and nothing.
-fn put_record(
-    used: usize,
-    kind: u32,
-    elapsed: u32,
-    fields: &[u32; Batch::WORDS],
-    count: usize,
-    out: &mut [u32],
-) -> u64
+fn put_record(taken: Taken, fields: &[u32; Batch::WORDS], count: usize, out: &mut [u32]) -> u64
     requires { (count ≤ batch_words) × (count ≤ length fields.now) }
-    ensures { Gives (into (length out.old) (used % refusal_unit ∷ kind ∷ elapsed ∷ take count fields.now)) out.old result out.new }
+    ensures { Gives (into (length out.old) (taken.used % refusal_unit ∷ taken.rec.kind ∷ taken.elapsed ∷ take count fields.now)) out.old result out.new }
 {
     if out.len() < Handed::WORDS_FRONT + count {
-        return refusal(Refusal::OUTPUT_TOO_SHORT, 0);
+        return told(Refusal::OutputTooShort.at(0));
     }
-    out[0] = (used as u64 % Code::UNIT) as u32;
-    out[1] = kind;
-    out[2] = elapsed;
+    out[0] = (taken.used as u64 % Code::UNIT) as u32;
+    out[1] = taken.rec.kind;
+    out[2] = taken.elapsed;
     put_fields(fields, count, out);
     (Handed::WORDS_FRONT + count) as u64 % Code::UNIT
 }
@@ -222,11 +215,11 @@ pub fn hasurenta_read_record(numbers: &[u32], bytes: &[u8], out: &mut [u32]) -> 
     }
     let head = given::head_of(numbers);
     let mut fields = [0u32; Batch::WORDS];
-    let taken = alone::read_record(bytes, head, numbers[Handed::TIME], &mut fields);
-    if taken.no != 0 {
-        return refusal(taken.no, taken.place);
+    match alone::read_record(bytes, head, numbers[Handed::TIME], &mut fields) {
+        Ok(taken) => {
+            let count = handed_out(taken.rec.kind, &fields);
+            put_record(taken, &fields, count, out)
+        }
+        Err(fault) => told(fault),
     }
-    let rec = taken.rec;
-    let count = handed_out(rec.kind, &fields);
-    put_record(taken.used, rec.kind, taken.elapsed, &fields, count, out)
 }

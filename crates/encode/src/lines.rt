@@ -1,104 +1,44 @@
 // Lines of numbers in decimal, each filled up with spaces to one length, so that a read takes one line.
-ghost use Rattle.std.specs.Prelude.{◌≤◌};
-
-use feed::Input;
+use crate::Fault;
 use std::io;
+use std::slice::Iter;
 
-// The number of the line in the text, or the end of the input, or a read that failed.
-#[derive(Clone, Copy)]
-pub enum Line {
-    Read(u32),
-    End,
-    Failed,
-}
+#[derive(Drop)]
+struct Line;
 
 impl Line {
     // 229 numbers of at most ten digits and a space each, and some more
     const BYTES: usize = 4096;
-}
 
-// A number, and the place after its last digit.
-#[derive(Clone, Copy)]
-struct Found {
-    value: u32,
-    next: usize,
-}
-
-impl Found {
     // A number that has passed this is kept as it is: it cannot be stored, however it goes on.
     const ENOUGH: u32 = 400000000;
 }
 
-fn is_digit(b: u8) -> bool {
-    match b {
-        b'0'..=b'9' => true,
-        _ => false,
-    }
-}
-
-fn figure(b: u8) -> u32
-    ensures { result ≤ 9 }
-{
-    match b {
-        b'0'..=b'9' => (b - b'0') as u32,
-        _ => 0,
-    }
-}
-
-fn with_digit(value: u32, b: u8) -> u32 {
-    if value > Found::ENOUGH {
+fn with_digit(value: u32, digit: u8) -> u32 {
+    if Line::ENOUGH < value {
         return value;
     }
-    value * 10 + figure(b)
+    value * 10 + u32::from(digit.saturating_sub(b'0'))
 }
 
-fn next_digit(text: &[u8], at: usize) -> usize {
-    for i in at..text.len() {
-        if is_digit(text[i]) {
-            return i;
-        }
-    }
-    text.len()
+// The next number, and what stands behind its last digit; where there is no number, 0.
+fn number(text: &mut Iter<'_, u8>) -> u32 {
+    text.skip_while(|byte| !byte.is_ascii_digit())
+        .take_while(|byte| byte.is_ascii_digit())
+        .fold(0, |value, digit| with_digit(value, *digit))
 }
 
-fn digits(text: &[u8], at: usize) -> Found {
-    let mut value: u32 = 0;
-    for i in at..text.len() {
-        if !is_digit(text[i]) {
-            return Found { value, next: i };
-        }
-        value = with_digit(value, text[i]);
-    }
-    Found {
-        value,
-        next: text.len(),
-    }
-}
-
-// The next number; where there is none, 0.
-fn number(text: &[u8], at: usize) -> Found {
-    digits(text, next_digit(text, at))
-}
-
-// The line's own number comes first; those after it fill the row.
-fn numbers(text: &[u8], row: &mut [u32]) -> Line {
-    let line = number(text, 0);
-    let mut next = line.next;
-    for cell in row.iter_mut() {
-        let found = number(text, next);
-        *cell = found.value;
-        next = found.next;
-    }
-    Line::Read(line.value)
-}
-
-pub fn read(rt: &(impl io::Input + Eprint), row: &mut [u32]) -> Line {
+// The line's own number comes first, and is its answer; those after it fill the row. Or the input has ended.
+pub fn read(rt: &(impl io::Input + Eprint), row: &mut [u32]) -> Result<Option<u32>, Fault> {
     let mut text = [0u8; Line::BYTES];
-    let Input::Taken(n) = feed::standard_input(rt, &mut text) else {
-        return Line::Failed;
-    };
+    let n = feed::standard_input(rt, &mut text).ok_or(Fault::Unread)?;
     if n == 0 {
-        return Line::End;
+        return Ok(None);
     }
-    numbers(&text, row)
+    let mut text = text.iter();
+    let line = number(&mut text);
+    for cell in row.iter_mut() {
+        *cell = number(&mut text);
+    }
+    Ok(Some(line))
 }

@@ -7,7 +7,7 @@ use native.Mathlib.Omega.{arith}
 use lib.Dec.{eqb, ltb}
 use lib.ListN.{get_or}
 use borrow.Author.Tests.{eq-eqb, ne_eqb, eqb-true, eqb-false, ltb-true, ltb-false}
-use Rattle.std.specs.Prelude.{◌==◌}
+use Rattle.std.specs.Prelude.{◌==◌, Some, None}
 use Rattle.rules.specs.Basics.{◌more_than◌, any, below}
 use Rattle.rules.specs.Record.{order, is_sent}
 use Rattle.rules.specs.Journal.{History, count, sent_at}
@@ -82,9 +82,9 @@ module _ (orders : List ℕ) (sent m exchange series side now : ℕ) (hm : m < s
 -- ---- the loop
 
 module _ (orders chains : List ℕ) (sent exchange series side now : ℕ) (c : Chains orders chains sent) (w : Within exchange series) where
-  pub look_start : (k i : ℕ) → RowIs exchange series k → (i ≡ get_or chains k 0) × (i < 4294967296) → Looking orders sent ((exchange - 1) * many_series + series) side now i
+  pub look_start : (k i : ℕ) → RowIs exchange series k → i ≡ get_or chains k 0 → Looking orders sent ((exchange - 1) * many_series + series) side now i
   look_start k i at ei =
-      let l : Link orders ((exchange - 1) * many_series + series) sent i = rw (← at.is, ei.0) (c.heads k at.small) in
+      let l : Link orders ((exchange - 1) * many_series + series) sent i = rw (← at.is, ei) (c.heads k at.small) in
       record {
         none = λ m h hm p. sym (ended_not_excusing _ _ _ _ _ (λ q. let a : m < i = l.all m hm p q in omega arith));
         own = l.own;
@@ -102,45 +102,56 @@ module _ (orders chains : List ℕ) (sent exchange series side now : ℕ) (c : C
         in_chain_excuses orders sent m exchange series side now hm past held at.0 at.1 ∙ lo.none m h hm p)
         (λ z. other_chain_not orders sent m exchange series side now hm past held (not_in_chain orders m exchange series (eqb-false (chain_of orders m) ((exchange - 1) * many_series + series) z)))
 
-    pub look_end : i ≤ 0 → ExcuserIs orders sent exchange series side now 0
+    pub look_end : (1 ≤ i → ⊥) → ExcuserIs orders sent exchange series side now None
     unfolding excuser_of
-    look_end h = record { so = λ past held. sym (newest_none _ (count is_sent past) (λ m hc. none_passed past held m (omega arith) hc)) }
+    look_end h =
+        record {
+          so = λ past held. sym (newest_none _ (count is_sent past) (λ m hc. none_passed past held m (omega arith) hc));
+          known = omega arith;
+        }
 
-    module _ (pos : 0 < i) where
-      here : i - 1 < sent
-      here = omega (arith, lo.low)
+    module _ (m : ℕ) (step : (1 ≤ i) × (m ≡ i - 1)) where
+      pos : 0 < i
+      pos = omega (arith, step.0)
 
-      module _ (b : Bool) (eb : b ≡ excusing (get_or orders ((i - 1) * 8 + 3) 0) (get_or orders ((i - 1) * 8 + 6) 0) (get_or orders ((i - 1) * 8 + 7) 0) side now) where
-        pub look_found : b ≡ true → (r : ℕ) → r ≡ i → ExcuserIs orders sent exchange series side now r
+      here : m < sent
+      here = omega (arith, step.0, step.1, lo.low)
+
+      mine : chain_of orders m ≡ (exchange - 1) * many_series + series
+      mine = rw step.1 (lo.own pos)
+
+      module _ (b : Bool) (eb : b ≡ excusing (get_or orders (m * 8 + 3) 0) (get_or orders (m * 8 + 6) 0) (get_or orders (m * 8 + 7) 0) side now) where
+        pub look_found : b ≡ true → ExcuserIs orders sent exchange series side now (Some m)
         unfolding excuser_of
-        look_found p r er =
-            let at = in_chain orders (i - 1) exchange series (c.rows (i - 1) here) w (lo.own pos) in
+        look_found p =
+            let at = in_chain orders m exchange series (c.rows m here) w mine in
             record {
               so =
-                  λ past held. let above : r ≡ suc (i - 1) = omega arith in
-                  above ∙ sym (newest_found _ (count is_sent past) (i - 1) (omega (arith, held.numbered, here))
-                  (in_chain_excuses orders sent (i - 1) exchange series side now here past held at.0 at.1 ∙ sym eb ∙ p)
-                  (λ m a hc. none_passed past held m (omega arith) hc));
+                  λ past held. let above : m + 1 ≡ suc m = omega arith in
+                  above ∙ sym (newest_found _ (count is_sent past) m (omega (arith, held.numbered, here))
+                  (in_chain_excuses orders sent m exchange series side now here past held at.0 at.1 ∙ sym eb ∙ p)
+                  (λ q a hc. none_passed past held q (omega (arith, step.0, step.1)) hc));
+              known = omega (arith, here);
             }
 
-        module _ (p : b ≡ false) (j : ℕ) (ej : (j ≡ get_or chains (many_chains + (i - 1)) 0) × (j < 4294967296)) where
-          rest : Link orders ((exchange - 1) * many_series + series) (i - 1) j
-          rest = rw (ej.0, ← lo.own pos) (c.nexts (i - 1) here)
+        module _ (p : b ≡ false) (j : ℕ) (ej : j ≡ get_or chains (many_chains + m) 0) where
+          rest : Link orders ((exchange - 1) * many_series + series) m j
+          rest = rw (ej, ← mine) (c.nexts m here)
 
           pub look_less : j < i
-          look_less = omega (arith, rest.down)
+          look_less = omega (arith, rest.down, step.0, step.1)
 
           pub look_more : Looking orders sent ((exchange - 1) * many_series + series) side now j
           look_more =
               record {
                 none =
-                    λ m h hm q. by_test (ltb m i)
-                    (λ z. let lt : m < i = ltb-true m i z in
-                    by_test (eqb m (i - 1))
-                    (λ a. rw (eqb-true m (i - 1) a) (sym eb ∙ p))
+                    λ n h hn q. by_test (ltb n i)
+                    (λ z. let lt : n < i = ltb-true n i z in
+                    by_test (eqb n m)
+                    (λ a. rw (eqb-true n m a) (sym eb ∙ p))
                     (λ a. sym (ended_not_excusing _ _ _ _ _ (λ f.
-                    let g : m < j = rest.all m (omega (arith, eqb-false m (i - 1) a)) q f in omega arith))))
-                    (λ z. lo.none m (ltb-false m i z) hm q);
+                    let g : n < j = rest.all n (omega (arith, eqb-false n m a, step.1)) q f in omega arith))))
+                    (λ z. lo.none n (ltb-false n i z) hn q);
                 own = rest.own;
                 low = omega (arith, look_less, lo.low);
                 few = lo.few;

@@ -62,11 +62,11 @@ module _ (r : Rec) (sent : ℕ) (pl : FitsOrders r sent) where
   pub order_known : r.kind ≡ response_kind → word r 0 < sent
   order_known k = pl.response k
 
-pub quote_within : (r : Rec) → QuoteOk most_exchanges r → (exchange series : ℕ) → (exchange ≡ word r 0) × (exchange < 4294967296) → (series ≡ word r 1) × (series < 4294967296) → Within exchange series
+pub quote_within : (r : Rec) → QuoteOk most_exchanges r → (exchange series : ℕ) → exchange ≡ word r 0 → series ≡ word r 1 → Within exchange series
 quote_within r g exchange series ex es =
     record { from_one = omega (arith, g.exchange.from_one); to_eight = omega (arith, g.exchange.to_n); low = omega (arith, g.series) }
 
-pub order_within : (r : Rec) → OrderOk most_exchanges 0 r → (exchange series : ℕ) → (exchange ≡ word r 1) × (exchange < 4294967296) → (series ≡ word r 2) × (series < 4294967296) → Within exchange series
+pub order_within : (r : Rec) → OrderOk most_exchanges 0 r → (exchange series : ℕ) → exchange ≡ word r 1 → series ≡ word r 2 → Within exchange series
 order_within r g exchange series ex es =
     record { from_one = omega (arith, g.other.from_one); to_eight = omega (arith, g.other.to_n); low = omega (arith, g.series) }
 
@@ -98,11 +98,11 @@ module _ (r : Rec) (orders orders2 chains : List ℕ) (sent : ℕ) (g : OrderOk 
   six (suc (suc (suc (suc (suc zero))))) h = refl
   six (suc (suc (suc (suc (suc (suc i)))))) h = let z : ⊥ = omega arith in elim z [ ]
 
-  pub order_taken : (exchange series k w : ℕ) → RowIs exchange series k → (exchange ≡ word r 1) × (exchange < 4294967296) → (series ≡ word r 2) × (series < 4294967296) → w ≡ sent + 1
+  pub order_taken : (exchange series k w : ℕ) → RowIs exchange series k → exchange ≡ word r 1 → series ≡ word r 2 → w ≡ sent + 1
       → ExcusesStep r orders sent orders2 (set (set chains (many_chains + sent) (get_or chains k 0)) k w) (sent + 1)
   order_taken exchange series k w at ex es ew =
       record {
-        chains = chains_more orders orders2 chains sent k w c room at.small ew put.others new_row (new_chain exchange series k at ex.0 es.0) put.long;
+        chains = chains_more orders orders2 chains sent k w c room at.small ew put.others new_row (new_chain exchange series k at ex es) put.long;
         so = λ e past rd held. excused_sent past orders sent e held r orders2 _ rd k4 put six refl refl;
       }
 
@@ -152,17 +152,17 @@ module _ (r : Rec) (orders : List ℕ) (sent m : ℕ) (known : word r 0 < sent) 
         (rw z (fill_ends m (order (sent_at m past)) e ek names ∙ ne_eqb (field e 1) (order (sent_at m past)).size (λ w. part (size_is ∙ sym w ∙ sym (rd.fields 1))))))
         (λ q. others_stand a ha (eqb-false a m q)))))
 
-  pub filled_in_full : get_or orders (m * 8 + 5) 0 ≡ word r 1 → (m ≡ word r 0) × (m < 4294967296) → sent ≤ most_sent_orders → length orders ≡ order_words
+  pub filled_in_full : get_or orders (m * 8 + 5) 0 ≡ word r 1 → m ≡ word r 0 → sent ≤ most_sent_orders → length orders ≡ order_words
       → ResponseKept r orders sent (set orders (m * 8 + 7) 0)
   filled_in_full full em few long =
-      let hm : m < most_sent_orders = omega (arith, em.0) in
+      let hm : m < most_sent_orders = omega (arith, em) in
       record {
         chains = λ chains c. chains_cleared orders m hm long chains sent c;
-        so = λ e past rd held. after_fill em.0 e past rd held few long full;
+        so = λ e past rd held. after_fill em e past rd held few long full;
       }
 
-  pub filled_in_part : (get_or orders (m * 8 + 5) 0 ≡ word r 1 → ⊥) → (m ≡ word r 0) × (m < 4294967296) → ResponseKept r orders sent orders
-  filled_in_part part em = record { chains = λ chains c. c; so = λ e past rd held. after_part em.0 e past rd held part }
+  pub filled_in_part : (get_or orders (m * 8 + 5) 0 ≡ word r 1 → ⊥) → m ≡ word r 0 → ResponseKept r orders sent orders
+  filled_in_part part em = record { chains = λ chains c. c; so = λ e past rd held. after_part em e past rd held part }
 
 -- ---- a record of any kind
 

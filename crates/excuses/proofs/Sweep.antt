@@ -99,16 +99,16 @@ outlived_stood flag side price bid offer q = eqb-true flag 1 (and_left (flag == 
 
 -- ---- the loop
 
-pub sweep_start : (orders chains : List ℕ) (sent k bid offer i exchange series : ℕ) → Chains orders chains sent → RowIs exchange series k → (i ≡ get_or chains k 0) × (i < 4294967296)
+pub sweep_start : (orders chains : List ℕ) (sent k bid offer i exchange series : ℕ) → Chains orders chains sent → RowIs exchange series k → i ≡ get_or chains k 0
     → Sweeping orders orders chains sent k bid offer k i
 sweep_start orders chains sent k bid offer i exchange series c at ei =
-    let l : Link orders k sent i = rw ei.0 (c.heads k at.small) in
+    let l : Link orders k sent i = rw ei (c.heads k at.small) in
     record {
       chains = c;
       words = λ m j hm hj. refl;
       passed = λ m h hm. passed_by orders k bid offer sent i m (c.rows m hm) l hm h;
       ahead = λ m h. refl;
-      link = ei.0;
+      link = ei;
       head = λ h. refl;
       next = λ h. absurd (omega (arith, at.small));
       known = at.small;
@@ -118,54 +118,60 @@ sweep_start orders chains sent k bid offer i exchange series c at ei =
       own = l.own;
     }
 
-module _ (orders orders2 chains2 : List ℕ) (sent k bid offer last i : ℕ) (sw : Sweeping orders orders2 chains2 sent k bid offer last i) (pos : 0 < i) where
-  here : i - 1 < sent
-  here = omega (arith, sw.low)
+module _ (orders orders2 chains2 : List ℕ) (sent k bid offer last i : ℕ) (sw : Sweeping orders orders2 chains2 sent k bid offer last i) (m : ℕ) (step : (1 ≤ i) × (m ≡ i - 1)) where
+  pos : 0 < i
+  pos = omega (arith, step.0)
 
-  pub sweep_price : 1 ≤ get_or orders2 ((i - 1) * 8 + 4) 0
-  sweep_price = (sw.chains.rows (i - 1) here).price
+  here : m < sent
+  here = omega (arith, step.0, step.1, sw.low)
 
-  module _ (j : ℕ) (ej : (j ≡ get_or chains2 (many_chains + (i - 1)) 0) × (j < 4294967296)) where
-    rest : Link orders2 k (i - 1) j
-    rest = rw (ej.0, ← sw.own pos) (sw.chains.nexts (i - 1) here)
+  mine : chain_of orders2 m ≡ k
+  mine = rw step.1 (sw.own pos)
+
+  pub sweep_price : 1 ≤ get_or orders2 (m * 8 + 4) 0
+  sweep_price = (sw.chains.rows m here).price
+
+  module _ (j : ℕ) (ej : j ≡ get_or chains2 (many_chains + m) 0) where
+    rest : Link orders2 k m j
+    rest = rw (ej, ← mine) (sw.chains.nexts m here)
 
     pub sweep_less : j < i
     sweep_less = omega (arith, rest.down)
 
     -- orders between that the chain does not lead to
-    between : (m : ℕ) → m < i - 1 → j ≤ m → get_or orders2 (m * 8 + 7) 0 ≡ flag_after orders k bid offer m
-    between m h g =
-        let hm : m < sent = omega (arith, sw.low) in
-        passed_by orders2 k bid offer (i - 1) j m (sw.chains.rows m hm) rest h g
-        ∙ flag_same orders orders2 k bid offer m (chain_same orders orders2 m (sw.words m 1 hm (omega arith)) (sw.words m 2 hm (omega arith)))
-        (sw.words m 3 hm (omega arith)) (sw.words m 4 hm (omega arith)) (sw.ahead m (omega arith))
+    between : (n : ℕ) → n < m → j ≤ n → get_or orders2 (n * 8 + 7) 0 ≡ flag_after orders k bid offer n
+    between n h g =
+        let hm : n < sent = omega (arith, sw.low) in
+        passed_by orders2 k bid offer m j n (sw.chains.rows n hm) rest h g
+        ∙ flag_same orders orders2 k bid offer n (chain_same orders orders2 n (sw.words n 1 hm (omega arith)) (sw.words n 2 hm (omega arith)))
+        (sw.words n 3 hm (omega arith)) (sw.words n 4 hm (omega arith)) (sw.ahead n (omega arith))
 
     -- the order itself
-    itself : flag_after orders k bid offer (i - 1)
-        ≡ bit (outlived (get_or orders2 ((i - 1) * 8 + 7) 0) (get_or orders2 ((i - 1) * 8 + 3) 0) (get_or orders2 ((i - 1) * 8 + 4) 0) bid offer)
+    itself : flag_after orders k bid offer m
+        ≡ bit (outlived (get_or orders2 (m * 8 + 7) 0) (get_or orders2 (m * 8 + 3) 0) (get_or orders2 (m * 8 + 4) 0) bid offer)
     itself =
-        sym (flag_same orders orders2 k bid offer (i - 1) (chain_same orders orders2 (i - 1) (sw.words (i - 1) 1 here (omega arith)) (sw.words (i - 1) 2 here (omega arith)))
-        (sw.words (i - 1) 3 here (omega arith)) (sw.words (i - 1) 4 here (omega arith)) (sw.ahead (i - 1) (omega arith)))
-        ∙ flag_in_chain orders2 k bid offer (i - 1) (sw.own pos)
+        sym (flag_same orders orders2 k bid offer m (chain_same orders orders2 m (sw.words m 1 here (omega arith)) (sw.words m 2 here (omega arith)))
+        (sw.words m 3 here (omega arith)) (sw.words m 4 here (omega arith)) (sw.ahead m (omega arith)))
+        ∙ flag_in_chain orders2 k bid offer m mine
 
     module _ (b : Bool)
-        (eb : b ≡ outlived (get_or orders2 ((i - 1) * 8 + 7) 0) (get_or orders2 ((i - 1) * 8 + 3) 0) (get_or orders2 ((i - 1) * 8 + 4) 0) bid offer) where
-      pub sweep_keep : b ≡ true → Sweeping orders orders2 chains2 sent k bid offer (many_chains + (i - 1)) j
+        (eb : b ≡ outlived (get_or orders2 (m * 8 + 7) 0) (get_or orders2 (m * 8 + 3) 0) (get_or orders2 (m * 8 + 4) 0) bid offer) where
+      pub sweep_keep : b ≡ true → Sweeping orders orders2 chains2 sent k bid offer (many_chains + m) j
       sweep_keep p =
           record {
             chains = sw.chains;
             words = sw.words;
             passed =
-                λ m h hm. by_test (ltb m i)
-                (λ z. let lt : m < i = ltb-true m i z in
-                by_test (eqb m (i - 1))
-                (λ q. rw (eqb-true m (i - 1) q, itself, ← eb, p) (outlived_stood _ _ _ _ _ (sym eb ∙ p)))
-                (λ q. between m (omega (arith, eqb-false m (i - 1) q)) h))
-                (λ z. sw.passed m (ltb-false m i z) hm);
-            ahead = λ m h. sw.ahead m (omega (arith, sweep_less));
-            link = ej.0;
+                λ n h hm. by_test (ltb n i)
+                (λ z. let lt : n < i = ltb-true n i z in
+                by_test (eqb n m)
+                (λ q. rw (eqb-true n m q, itself, ← eb, p) (outlived_stood _ _ _ _ _ (sym eb ∙ p)))
+                (λ q. between n (omega (arith, eqb-false n m q)) h))
+                (λ z. sw.passed n (ltb-false n i z) hm);
+            ahead = λ n h. sw.ahead n (omega (arith, sweep_less));
+            link = ej;
             head = λ h. absurd (omega arith);
-            next = λ h. let z : many_chains + (i - 1) - many_chains ≡ i - 1 = omega arith in rw z (here, sw.own pos);
+            next = λ h. let z : many_chains + m - many_chains ≡ m = omega arith in rw z (here, mine);
             known = sw.known;
             place = omega (arith, sw.low, sw.few);
             low = omega (arith, sweep_less, sw.low);
@@ -173,48 +179,48 @@ module _ (orders orders2 chains2 : List ℕ) (sent k bid offer last i : ℕ) (sw
             own = rest.own;
           }
 
-      pub sweep_drop : b ≡ false → Sweeping orders (set orders2 ((i - 1) * 8 + 7) 0) (set chains2 last (get_or chains2 (many_chains + (i - 1)) 0)) sent k bid offer last j
+      pub sweep_drop : b ≡ false → Sweeping orders (set orders2 (m * 8 + 7) 0) (set chains2 last (get_or chains2 (many_chains + m) 0)) sent k bid offer last j
       sweep_drop p =
-          let hk : i - 1 < most_sent_orders = omega (arith, sw.low, sw.few) in
+          let hk : m < most_sent_orders = omega (arith, sw.low, sw.few) in
           let lt : length orders2 ≡ order_words = sw.chains.long in
-          let cleared : List ℕ = set orders2 ((i - 1) * 8 + 7) 0 in
-          let gone : get_or cleared ((i - 1) * 8 + 7) 0 ≡ 0 = cleared_here orders2 (i - 1) hk lt in
+          let cleared : List ℕ = set orders2 (m * 8 + 7) 0 in
+          let gone : get_or cleared (m * 8 + 7) 0 ≡ 0 = cleared_here orders2 m hk lt in
           record {
             chains =
-                chains_without cleared chains2 sent k last i (chains_cleared orders2 (i - 1) hk lt chains2 sent sw.chains) pos sw.low sw.link sw.head
-                (λ h. ((sw.next h).0, cleared_chain orders2 (i - 1) hk lt (last - many_chains) ∙ (sw.next h).1)) sw.place sw.known
-                (cleared_chain orders2 (i - 1) hk lt (i - 1) ∙ sw.own pos) (λ q. omega (arith, gone)) (get_or chains2 (many_chains + (i - 1)) 0) refl;
-            words = λ m q hm hq. cleared_word orders2 (i - 1) hk lt m q hq ∙ sw.words m q hm hq;
+                chains_without cleared chains2 sent k last i (chains_cleared orders2 m hk lt chains2 sent sw.chains) pos sw.low sw.link sw.head
+                (λ h. ((sw.next h).0, cleared_chain orders2 m hk lt (last - many_chains) ∙ (sw.next h).1)) sw.place sw.known
+                (rw (← step.1) (cleared_chain orders2 m hk lt m ∙ mine)) (rw (← step.1) (λ q. omega (arith, gone))) (get_or chains2 (many_chains + m) 0) (rw step.1);
+            words = λ n q hm hq. cleared_word orders2 m hk lt n q hq ∙ sw.words n q hm hq;
             passed =
-                λ m h hm. by_test (ltb m i)
-                (λ z. let l : m < i = ltb-true m i z in
-                by_test (eqb m (i - 1))
-                (λ q. rw (eqb-true m (i - 1) q, itself, ← eb, p) gone)
-                (λ q. let ne = eqb-false m (i - 1) q in cleared_other orders2 (i - 1) hk lt m ne ∙ between m (omega (arith, ne)) h))
-                (λ z. let l : i ≤ m = ltb-false m i z in cleared_other orders2 (i - 1) hk lt m (λ q. omega arith) ∙ sw.passed m l hm);
-            ahead = λ m h. cleared_other orders2 (i - 1) hk lt m (λ q. omega (arith, sweep_less)) ∙ sw.ahead m (omega (arith, sweep_less));
-            link = ej.0 ∙ sym (at_last cleared);
+                λ n h hm. by_test (ltb n i)
+                (λ z. let l : n < i = ltb-true n i z in
+                by_test (eqb n m)
+                (λ q. rw (eqb-true n m q, itself, ← eb, p) gone)
+                (λ q. let ne = eqb-false n m q in cleared_other orders2 m hk lt n ne ∙ between n (omega (arith, ne)) h))
+                (λ z. let l : i ≤ n = ltb-false n i z in cleared_other orders2 m hk lt n (λ q. omega arith) ∙ sw.passed n l hm);
+            ahead = λ n h. cleared_other orders2 m hk lt n (λ q. omega (arith, sweep_less)) ∙ sw.ahead n (omega (arith, sweep_less));
+            link = ej ∙ sym (at_last cleared);
             head = sw.head;
-            next = λ h. ((sw.next h).0, cleared_chain orders2 (i - 1) hk lt (last - many_chains) ∙ (sw.next h).1);
+            next = λ h. ((sw.next h).0, cleared_chain orders2 m hk lt (last - many_chains) ∙ (sw.next h).1);
             known = sw.known;
             place = sw.place;
             low = omega (arith, sweep_less, sw.low);
             few = sw.few;
-            own = λ h. cleared_chain orders2 (i - 1) hk lt (j - 1) ∙ rest.own h;
+            own = λ h. cleared_chain orders2 m hk lt (j - 1) ∙ rest.own h;
           }
         where
-          at_last : List ℕ → get_or (set chains2 last (get_or chains2 (many_chains + (i - 1)) 0)) last 0 ≡ get_or chains2 (many_chains + (i - 1)) 0
-          at_last cleared = get_or-set_same chains2 last (get_or chains2 (many_chains + (i - 1)) 0) 0 (omega (arith, sw.chains.chains, sw.place))
+          at_last : List ℕ → get_or (set chains2 last (get_or chains2 (many_chains + m) 0)) last 0 ≡ get_or chains2 (many_chains + m) 0
+          at_last cleared = get_or-set_same chains2 last (get_or chains2 (many_chains + m) 0) 0 (omega (arith, sw.chains.chains, sw.place))
 
-pub sweep_end : (r : Rec) (orders orders2 chains2 chains : List ℕ) (sent k last i exchange series : ℕ) → Sweeping orders orders2 chains2 sent k (word r 2) (word r 5) last i → i ≤ 0
-    → Chains orders chains sent → r.kind ≡ quote_kind → RowIs exchange series k → (exchange ≡ word r 0) × (exchange < 4294967296) → (series ≡ word r 1) × (series < 4294967296) → Within exchange series
+pub sweep_end : (r : Rec) (orders orders2 chains2 chains : List ℕ) (sent k last i exchange series : ℕ) → Sweeping orders orders2 chains2 sent k (word r 2) (word r 5) last i → (1 ≤ i → ⊥)
+    → Chains orders chains sent → r.kind ≡ quote_kind → RowIs exchange series k → exchange ≡ word r 0 → series ≡ word r 1 → Within exchange series
     → ExcusesStep r orders sent orders2 chains2 sent
 sweep_end r orders orders2 chains2 chains sent k last i exchange series sw end c0 k1 at ex es w =
     record {
       chains = sw.chains;
       so =
           λ e past rd held. excused_after past orders sent e held (kind_not e (rd.kind ∙ k1) (λ z. omega arith)) orders2 sw.words
-          (λ m hm. sw.passed m (omega arith) hm ∙ rw at.is (flag_after_is r orders sent m exchange series k1 hm (c0.rows m hm) w ex.0 es.0 e past rd held));
+          (λ m hm. sw.passed m (omega arith) hm ∙ rw at.is (flag_after_is r orders sent m exchange series k1 hm (c0.rows m hm) w ex es e past rd held));
     }
 
 pub ruleset sweep_laws = (sweep_start, sweep_price, sweep_less, sweep_keep, sweep_drop, sweep_end)

@@ -1,6 +1,6 @@
 -- Reason 2: the table of sent orders, a row of eight words for each (its six fields, its time, whether its excuse stands), and
 -- the chains by which a quote or a trade finds the orders to one exchange in one series.
-use Rattle.std.specs.Prelude.{◌≡◌, Bool, false, not, ◌&&◌, ◌||◌, List, ◌∷◌, ℕ, zero, suc, ◌+◌, ◌-◌, ◌*◌, ◌<◌, ◌≤◌, get_or, length, if◌then◌else◌, ◌==◌}
+use Rattle.std.specs.Prelude.{◌≡◌, Bool, false, not, ◌&&◌, ◌||◌, List, ◌∷◌, ℕ, zero, suc, ◌+◌, ◌-◌, ◌*◌, ◌<◌, ◌≤◌, get_or, length, if◌then◌else◌, ◌==◌, Option, Some, None}
 use Rattle.rules.specs.Basics.{◌more_than◌, any, bit}
 use Rattle.rules.specs.Limits.{most_exchanges, most_sent_orders}
 use Rattle.rules.specs.Record.{buy, Event, field, order, is_sent, sent_kind, response_kind, quote_kind}
@@ -141,5 +141,11 @@ pub record ExcusesStep (r : Rec) (orders : List ℕ) (sent : ℕ) (orders2 chain
   pub chains : Chains orders2 chains2 sent2
   pub so : (e : Event) (past : History) → Reads e r → Excused past orders sent → Excused (e ∷ past) orders2 sent2
 
-pub record ExcuserIs (orders : List ℕ) (sent exchange series side now r : ℕ) : Type 0 where
-  pub so : (past : History) → Excused past orders sent → r ≡ excuser_of exchange series side now past
+-- a number as it is kept in a table: one above it, or 0 where there is none
+abbrev pub one_above : Option ℕ → ℕ
+one_above None = 0
+one_above (Some n) = n + 1
+
+pub record ExcuserIs (orders : List ℕ) (sent exchange series side now : ℕ) (r : Option ℕ) : Type 0 where
+  pub so : (past : History) → Excused past orders sent → one_above r ≡ excuser_of exchange series side now past
+  pub known : one_above r ≤ sent

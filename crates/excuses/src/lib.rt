@@ -63,7 +63,7 @@ fn keep_sent(
     ensures { ExcusesStep r orders.old sent orders.new chains.new result }
 {
     let row = r.row;
-    let chain = quotes::row_of(rows::index(row[1]), rows::index(row[2]));
+    let chain = quotes::row_of(row[1] as usize, row[2] as usize);
     rows::put_row(
         orders,
         sent,
@@ -71,50 +71,50 @@ fn keep_sent(
     );
     let older = chains[chain];
     chains[Chain::HEADS + sent] = older;
-    chains[chain] = rows::narrow(sent + 1);
+    chains[chain] = (sent + 1) as u32;
     sent + 1
 }
 
 // "filled in full": the excuse ends there.
+#[tactic(auto, using(crate::proofs::Steps::step_laws))]
 fn answered(orders: &mut [u32; Orders::WORDS], sent: usize, r: Rec)
     requires { (r.kind ≡ response_kind) × (word r 0 < sent) × (sent ≤ most_sent_orders) × (length orders.old ≡ order_words) }
     ensures { ResponseKept r orders.old sent orders.new }
 {
     let row = r.row;
-    let at = rows::index(row[0]) * 8;
+    let at = row[0] as usize * 8;
     if orders[at + Excuse::SIZE] == row[1] {
         orders[at + Excuse::STANDS] = 0;
-        return;
     }
 }
 
 // "worse than its price or absent on that side"
+#[tactic(auto, using(crate::proofs::Words::backs_laws))]
 fn backs_away(side: u32, price: u32, bid: u32, offer: u32) -> bool
     requires { 1 ≤ price }
     ensures { result ≡ backed side price bid offer }
 {
     if side == Way::BUY {
-        if offer == 0 {
-            return true;
-        }
-        return price < offer;
+        offer == 0 || price < offer
+    } else {
+        bid < price
     }
-    bid < price
 }
 
+#[tactic(auto, using(crate::proofs::Words::outlives_laws))]
 fn outlives(orders: &[u32; Orders::WORDS], m: usize, bid: u32, offer: u32) -> bool
     requires { (m < most_sent_orders) × (1 ≤ get_or orders.now (m * 8 + 4) 0) }
     ensures { result ≡ outlived (get_or orders.now (m * 8 + 7) 0) (get_or orders.now (m * 8 + 3) 0) (get_or orders.now (m * 8 + 4) 0) bid offer }
 {
-    if orders[m * 8 + Excuse::STANDS] != 1 {
-        return false;
-    }
-    !backs_away(
-        orders[m * 8 + Excuse::SIDE],
-        orders[m * 8 + Excuse::PRICE],
-        bid,
-        offer,
-    )
+    let at = m * 8;
+    let stands = orders[at + Excuse::STANDS] == 1;
+    stands
+        && !backs_away(
+            orders[at + Excuse::SIDE],
+            orders[at + Excuse::PRICE],
+            bid,
+            offer,
+        )
 }
 
 // A quote ends the excuses that it backs away from. Orders whose excuse has ended leave the chain, so that no later quote or
@@ -133,12 +133,11 @@ pub fn quoted(
     let row = r.row;
     let bid = row[2];
     let offer = row[5];
-    let mut last = quotes::row_of(rows::index(row[0]), rows::index(row[1]));
-    let mut i = rows::index(chains[last]);
-    while 0 < i {
-        let m = i - 1;
+    let mut last = quotes::row_of(row[0] as usize, row[1] as usize);
+    let mut i = chains[last] as usize;
+    while let Some(m) = i.checked_sub(1) {
         let next = chains[Chain::HEADS + m];
-        i = rows::index(next);
+        i = next as usize;
         if outlives(orders, m, bid, offer) {
             last = Chain::HEADS + m;
             continue;
@@ -159,37 +158,35 @@ pub fn keep_excuses(
     requires chains { Chains orders.old chains.old sent }
     ensures { ExcusesStep r orders.old sent orders.new chains.new result }
 {
-    if r.kind == Rec::QUOTE {
-        quoted(orders, chains, sent, r);
-        return sent;
+    match r.kind {
+        Rec::QUOTE => {
+            quoted(orders, chains, sent, r);
+            sent
+        }
+        Rec::SENT => keep_sent(orders, chains, sent, r),
+        Rec::RESPONSE => {
+            answered(orders, sent, r);
+            sent
+        }
+        _ => sent,
     }
-    if r.kind == Rec::SENT {
-        return keep_sent(orders, chains, sent, r);
-    }
-    if r.kind == Rec::RESPONSE {
-        answered(orders, sent, r);
-        return sent;
-    }
-    sent
 }
 
 // "more than 20,000 ms before the trade", and the excuse stands
+#[tactic(auto, using(crate::proofs::Words::excusing_laws))]
 fn still_excuses(orders: &[u32; Orders::WORDS], m: usize, side: u32, time: u32) -> bool
     requires { m < most_sent_orders }
     ensures { result ≡ excusing (get_or orders.now (m * 8 + 3) 0) (get_or orders.now (m * 8 + 6) 0) (get_or orders.now (m * 8 + 7) 0) side time }
 {
-    if orders[m * 8 + Excuse::SIDE] != side {
-        return false;
-    }
-    if orders[m * 8 + Excuse::STANDS] != 1 {
-        return false;
-    }
-    rows::wide(orders[m * 8 + Excuse::TIME]) + Excuse::WAIT < rows::wide(time)
+    let at = m * 8;
+    orders[at + Excuse::SIDE] == side
+        && orders[at + Excuse::STANDS] == 1
+        && u64::from(orders[at + Excuse::TIME]) + Excuse::WAIT < u64::from(time)
 }
 
 // "home had sent the sender an order in the series (sell for a bid, buy for an offer) more than 20,000 ms before the trade, and
-// up to the trade it was neither filled in full nor followed by a quote .. worse than its price or absent on that side": one above
-// the number of the newest such order, or 0 where there is none.
+// up to the trade it was neither filled in full nor followed by a quote .. worse than its price or absent on that side": the newest
+// such order.
 pub fn excuser(
     orders: &[u32; Orders::WORDS],
     chains: &[u32; Chain::WORDS],
@@ -198,17 +195,17 @@ pub fn excuser(
     series: usize,
     side: u32,
     time: u32,
-) -> u32
+) -> Option<usize>
     requires within { Within exchange series }
     requires chains { Chains orders.now chains.now sent }
     ensures { ExcuserIs orders.now sent exchange series side time result }
 {
-    let mut i = rows::index(chains[quotes::row_of(exchange, series)]);
-    while 0 < i {
-        if still_excuses(orders, i - 1, side, time) {
-            return rows::narrow(i);
+    let mut i = chains[quotes::row_of(exchange, series)] as usize;
+    while let Some(m) = i.checked_sub(1) {
+        if still_excuses(orders, m, side, time) {
+            return Some(m);
         }
-        i = rows::index(chains[Chain::HEADS + (i - 1)]);
+        i = chains[Chain::HEADS + m] as usize;
     }
-    0
+    None
 }

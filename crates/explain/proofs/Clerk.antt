@@ -3,12 +3,13 @@
 use mathlib.Core.List.{List}
 use Prim.Native.Nat.{ℕ, ◌≤◌}
 use Rattle.rules.specs.Limits.{most_trade_lines}
+use Rattle.fairness.specs.declared.Portion.{Portion}
 use Rattle.claims.specs.Lines.{Gathered}
 use Rattle.claims.proofs.TradeLines.{trade_findable}
 use Rattle.reasons.proofs.Table.{allowed_at_most}
-use Rattle.answers.proofs.Answers.{few_trades, lines_filed, few_lines, few_rows, full_list}
+use Rattle.answers.proofs.Answers.{tables_known, rows_known, full_list}
 
-pub gathered_few : (claims : List ℕ) (m : ℕ) (claim customers : List ℕ) (k : ℕ) → Gathered claims m claim customers k → k ≤ most_trade_lines
-gathered_few claims m claim customers k g = g.few
+pub gathered_few : (claims : List ℕ) (m : ℕ) (portions : List Portion) (k : ℕ) → Gathered claims m portions k → k ≤ most_trade_lines
+gathered_few claims m portions k g = g.few
 
-pub ruleset clerk_laws = (few_trades, lines_filed, few_lines, few_rows, full_list, trade_findable, gathered_few, allowed_at_most)
+pub ruleset clerk_laws = (tables_known, rows_known, full_list, trade_findable, gathered_few, allowed_at_most)

@@ -1,87 +1,72 @@
 // What a sheet says, our own or one that was handed in, beside what the journal gives; and where the check refused it.
-ghost use Rattle.std.specs.Prelude.{◌<◌, ◌≤◌};
+ghost use Rattle.std.specs.Prelude.{◌<◌, ◌≤◌, length, IfSome};
 ghost use Rattle.rules.specs.Limits.{most_trades, most_satisfaction_orders, most_trade_lines};
-ghost use Rattle.claims.specs.Lines.{Filing};
 
-use crate::order::Order;
-use crate::{order, telling};
+use crate::order::{Day, Order};
 use claims::Line;
-use rows::{Refusal, TradeLines};
-use said::Said;
-use std::io;
+use counted::SatisfactionOrder;
+use fairness::Portion;
+use reasons::Reason;
+use rows::{Refusal, Refused, TradeLines};
+use said::{Reach, Said};
 use std::io::Write;
-use trades::{Shown, Trades};
+use std::{fmt, io};
 
-// Whose sheet it is; how many of its lines could be read, and the place where that ended; the check's refusal, 0 where it was accepted, and its place.
+// Whose sheet it is; its lines, and how many of them could be read; and the check's refusal.
 #[derive(Clone, Copy)]
-pub struct Sheet {
+pub struct Sheet<'a> {
     pub own: bool,
-    pub lines: usize,
-    pub place: usize,
-    pub no: u32,
-    pub at: usize,
+    pub said: &'a [Said; SatisfactionOrder::MOST],
+    pub reach: Reach,
+    pub refused: Option<Refused>,
 }
 
-fn say_whose<W: Write>(out: &mut W, own: bool) -> io::Result<()> {
+fn whose(own: bool) -> &'static str {
     if own {
-        write!(out, "  our own sheet: ")
+        "  our own sheet: "
     } else {
-        write!(out, "  the sheet: ")
+        "  the sheet: "
     }
 }
 
-fn say_here<W: Write>(out: &mut W, no: u32) -> io::Result<()> {
-    write!(out, "  refused {no} here: ")
+// Before what is wrong.
+#[derive(Clone, Copy)]
+struct Here(Refusal);
+
+impl fmt::Display for Here {
+    fn fmt<W: fmt::Write>(&self, f: &mut fmt::Formatter<W>) -> fmt::Result {
+        let number = self.0.number();
+        write!(f, "  refused {number} here: ")
+    }
 }
 
 // A line that could not be read: the one with the bad number, or one after it.
-fn say_unread<W: Write>(out: &mut W, sheet: Sheet, i: usize) -> io::Result<()> {
-    if sheet.lines < i {
+fn say_unread<W: Write>(out: &mut W, reach: Reach, i: usize) -> io::Result<()> {
+    if reach.lines < i {
         return writeln!(out, "not read");
     }
-    writeln!(out, "no number can be read at byte {}", sheet.place)?;
-    say_here(out, Refusal::NOT_THREE_EACH)?;
+    writeln!(out, "no number can be read at byte {}", reach.place)?;
     writeln!(
         out,
-        "three readable numbers for each Satisfaction Order are wanted"
+        "{}three readable numbers for each Satisfaction Order are wanted",
+        Here(Refusal::NotThreeEach)
     )
 }
 
 // "A sheet line: reason, filled, cancelled." Our own names the journal's reason, which is said above it.
-fn say_three<W: Write>(
-    out: &mut W,
-    own: bool,
-    reason: u32,
-    filled: u32,
-    cancelled: u32,
-) -> io::Result<()> {
-    if !own {
-        write!(out, "reason {reason}, ")?;
-    }
-    write!(out, "filled {filled}, cancelled {cancelled}")
-}
-
 // Where less is due to the trade than is claimed, and the order has a part in it (shared), another sheet may be as good as our own.
-fn say_line<W: Write>(
-    out: &mut W,
-    said: &[u32; Said::WORDS],
-    sheet: Sheet,
-    i: usize,
-    shared: bool,
-) -> io::Result<()>
+fn say_line<W: Write>(out: &mut W, sheet: Sheet<'_>, i: usize, shared: bool) -> io::Result<()>
     requires { i < most_satisfaction_orders }
 {
-    say_whose(out, sheet.own)?;
-    if sheet.lines <= i {
-        return say_unread(out, sheet, i);
+    write!(out, "{}", whose(sheet.own))?;
+    if sheet.reach.lines <= i {
+        return say_unread(out, sheet.reach, i);
     }
-    say_three(
-        out,
-        sheet.own,
-        said[i * 3 + Said::REASON],
-        said[i * 3 + Said::FILLED],
-        said[i * 3 + Said::CANCELLED],
-    )?;
+    let line = sheet.said[i];
+    if !sheet.own {
+        write!(out, "reason {}, ", line.reason)?;
+    }
+    write!(out, "filled {}, cancelled {}", line.filled, line.cancelled)?;
     if sheet.own && shared {
         write!(
             out,
@@ -91,102 +76,78 @@ fn say_line<W: Write>(
     writeln!(out)
 }
 
-// 21
-fn say_sum<W: Write>(out: &mut W, filled: u32, cancelled: u32, size: u32) -> io::Result<()> {
-    write!(
-        out,
-        "filled {filled} and cancelled {cancelled} make {}, the order has {size}",
-        rows::wide(filled) + rows::wide(cancelled)
-    )
-}
-
-// 22
-fn say_reasons<W: Write>(out: &mut W, named: u32, reason: u32) -> io::Result<()> {
-    write!(
-        out,
-        "the sheet's reason is {named}, the journal's is {reason}"
-    )
-}
-
-// 24
-fn say_above<W: Write>(out: &mut W, filled: u32, claim: u32) -> io::Result<()> {
-    write!(out, "filled {filled}, the claim is {claim}")
-}
-
-// The two numbers that differ.
+// 21, 22, 24, where the check stopped at this line: the two numbers that differ.
 fn say_line_fault<W: Write>(
     out: &mut W,
-    said: &[u32; Said::WORDS],
+    line: Said,
     order: Order,
-    i: usize,
-    no: u32,
-) -> io::Result<()>
-    requires { i < most_satisfaction_orders }
-{
-    let filled = said[i * 3 + Said::FILLED];
-    say_here(out, no)?;
-    if no == Refusal::DOES_NOT_ADD_UP {
-        say_sum(out, filled, said[i * 3 + Said::CANCELLED], order.size)?;
-    } else if no == Refusal::WRONG_REASON {
-        say_reasons(out, said[i * 3 + Said::REASON], order.reason)?;
-    } else {
-        say_above(out, filled, order.claim)?;
+    refusal: Refusal,
+) -> io::Result<()> {
+    let here = Here(refusal);
+    let filled = line.filled;
+    match refusal {
+        Refusal::DoesNotAddUp => writeln!(
+            out,
+            "{here}filled {filled} and cancelled {} make {}, the order has {}",
+            line.cancelled,
+            u64::from(filled) + u64::from(line.cancelled),
+            order.size
+        ),
+        Refusal::WrongReason => writeln!(
+            out,
+            "{here}the sheet's reason is {}, the journal's is {}",
+            line.reason,
+            Reason::stored(order.reason)
+        ),
+        Refusal::AboveClaim => {
+            writeln!(out, "{here}filled {filled}, the claim is {}", order.claim)
+        }
+        _ => Ok(()),
     }
-    writeln!(out)
-}
-
-// Whether the check stopped at a line with this number.
-fn is_line_fault(no: u32) -> bool {
-    if no == Refusal::DOES_NOT_ADD_UP {
-        return true;
-    }
-    if no == Refusal::WRONG_REASON {
-        return true;
-    }
-    no == Refusal::ABOVE_CLAIM
 }
 
 // The line of one order, and what is wrong with it.
 pub fn tell_line<W: Write>(
     out: &mut W,
-    said: &[u32; Said::WORDS],
     order: Order,
-    i: usize,
-    sheet: Sheet,
+    sheet: Sheet<'_>,
     shared: bool,
 ) -> io::Result<()>
-    requires { i < most_satisfaction_orders }
+    requires { order.number < most_satisfaction_orders }
 {
-    say_line(out, said, sheet, i, shared)?;
-    if is_line_fault(sheet.no) {
-        if sheet.at == i {
-            return say_line_fault(out, said, order, i, sheet.no);
+    let i = order.number;
+    say_line(out, sheet, i, shared)?;
+    match sheet.refused {
+        Some(Refused { refusal, place }) if place == i => {
+            say_line_fault(out, sheet.said[i], order, refusal)
         }
+        _ => Ok(()),
     }
-    Ok(())
 }
 
 // "first extra byte"
-pub fn tell_extra<W: Write>(out: &mut W, sheet: Sheet, lines: usize) -> io::Result<()> {
-    if sheet.no == Refusal::NOT_THREE_EACH {
-        if lines <= sheet.lines {
+pub fn tell_extra<W: Write>(out: &mut W, sheet: Sheet<'_>, lines: usize) -> io::Result<()> {
+    let reach = sheet.reach;
+    match sheet.refused {
+        Some(
+            Refused {
+                refusal: Refusal::NotThreeEach,
+                place: _,
+            },
+        ) if lines <= reach.lines => {
             writeln!(
                 out,
                 "The sheet goes on after its last line, at byte {}",
-                sheet.place
+                reach.place
             )?;
-            say_here(out, Refusal::NOT_THREE_EACH)?;
-            writeln!(out, "one line for each Satisfaction Order, and no more")?;
+            writeln!(
+                out,
+                "{}one line for each Satisfaction Order, and no more",
+                Here(Refusal::NotThreeEach)
+            )
         }
+        _ => Ok(()),
     }
-    Ok(())
-}
-
-// The sum of trade m's claims.
-pub fn claimed(claims: &[u32; Line::WORDS], m: usize) -> u32
-    requires { m < most_trades }
-{
-    claims[Line::TRADES + m * Line::PART + Line::SUM]
 }
 
 // "the lesser of trade size and the sum of claims; else the sum of claims"
@@ -201,147 +162,108 @@ fn say_due<W: Write>(out: &mut W, sum: u32, due: u32) -> io::Result<()> {
     writeln!(out)
 }
 
-// The first line that line i is too far behind, or k.
-fn ahead_of(
-    claim: &[u32; TradeLines::MOST],
-    customers: &[u32; TradeLines::MOST],
-    fill: &[u32; TradeLines::MOST],
-    k: usize,
-    i: usize,
-) -> usize
-    requires { (k ≤ most_trade_lines) × (i < most_trade_lines) }
-    ensures { result ≤ k }
+// The first line that is too far behind another, and that other.
+fn behind(portions: &[Portion]) -> Option<(usize, usize)>
+    ensures { IfSome result (λ pair. (pair.0 < length portions.now) × (pair.1 < length portions.now)) }
 {
-    for j in 0..k {
-        if fairness::breaks(fill[i], claim[i], customers[i], fill[j], customers[j]) {
-            return j;
+    for i in 0..portions.len() {
+        let portion = portions[i];
+        let before = portions
+            .iter()
+            .position(|other| fairness::breaks(portion, *other));
+        if let Some(j) = before {
+            return Some((i, j));
         }
     }
-    k
+    None
 }
 
-fn say_filled<W: Write>(out: &mut W, number: u32, fill: u32, customers: u32) -> io::Result<()> {
-    write!(
-        out,
-        "order {number}, filled {fill} for {customers} customer contracts"
-    )
-}
-
-fn say_below<W: Write>(out: &mut W, claim: u32) -> io::Result<()> {
-    write!(
-        out,
-        " and below its claim of {claim}, is in proportion more than one contract behind "
-    )
-}
-
-// 26: the first line that is too far behind another, and that other.
-fn say_behind<W: Write>(
-    out: &mut W,
-    claims: &[u32; Line::WORDS],
-    m: usize,
-    claim: &[u32; TradeLines::MOST],
-    customers: &[u32; TradeLines::MOST],
-    fill: &[u32; TradeLines::MOST],
-    k: usize,
-) -> io::Result<()>
-    requires m_lt_most_trades { m < most_trades }
-    requires k_le_most_trade_lines { k ≤ most_trade_lines }
+// 26: a line that is too far behind another, and that other; the numbers of the trade's orders stand in its part.
+fn say_behind<W: Write>(out: &mut W, day: Day<'_>, m: usize, portions: &[Portion]) -> io::Result<()>
+    requires { (m < most_trades) × (length portions.now ≤ most_trade_lines) }
 {
+    let Some((i, j)) = behind(portions) else {
+        return Ok(());
+    };
     let part = Line::TRADES + m * Line::PART;
-    for i in 0..k {
-        let j = ahead_of(claim, customers, fill, k, i);
-        if j < k {
-            say_filled(out, claims[part + i], fill[i], customers[i])?;
-            say_below(out, claim[i])?;
-            return say_filled(out, claims[part + j], fill[j], customers[j]);
-        }
-    }
-    Ok(())
+    let portion = portions[i];
+    let other = portions[j];
+    writeln!(
+        out,
+        "{}order {}, filled {} for {} customer contracts and below its claim of {}, is in proportion more than one contract behind order {}, filled {} for {} customer contracts",
+        Here(Refusal::ShareRuleBroken),
+        day.claims[part + i],
+        portion.filled,
+        portion.customers,
+        portion.claim,
+        day.claims[part + j],
+        other.filled,
+        other.customers
+    )
 }
 
-fn is_trade_fault(no: u32) -> bool {
-    if no == Refusal::NOT_THE_DUE_TOTAL {
-        return true;
-    }
-    no == Refusal::SHARE_RULE_BROKEN
-}
-
-// 25 and 26, where the check stopped at trade m with so many orders.
+// 25 and 26, where the check stopped at trade m.
 fn say_trade_fault<W: Write>(
     out: &mut W,
-    claims: &[u32; Line::WORDS],
+    day: Day<'_>,
     m: usize,
-    claim: &[u32; TradeLines::MOST],
-    customers: &[u32; TradeLines::MOST],
-    fill: &[u32; TradeLines::MOST],
-    k: usize,
     due: u32,
-    no: u32,
+    portions: &[Portion],
+    refusal: Refusal,
 ) -> io::Result<()>
-    requires m_lt_most_trades { m < most_trades }
-    requires k_le_most_trade_lines { k ≤ most_trade_lines }
+    requires { (m < most_trades) × (length portions.now ≤ most_trade_lines) }
 {
-    say_here(out, no)?;
-    if no == Refusal::SHARE_RULE_BROKEN {
-        say_behind(out, claims, m, claim, customers, fill, k)?;
-        return writeln!(out);
+    match refusal {
+        Refusal::NotTheDueTotal => {
+            let filled = fairness::total(portions);
+            writeln!(out, "{}due {due}, filled {filled}", Here(refusal))
+        }
+        Refusal::ShareRuleBroken => say_behind(out, day, m, portions),
+        _ => Ok(()),
     }
-    writeln!(out, "due {due}, filled {}", fairness::total(fill, k))
 }
 
 // What the sheet fills of trade m, and what is wrong with it.
 fn tell_fills<W: Write>(
     out: &mut W,
-    claims: &[u32; Line::WORDS],
-    said: &[u32; Said::WORDS],
-    lines: usize,
+    day: Day<'_>,
     m: usize,
     due: u32,
-    sheet: Sheet,
+    sheet: Sheet<'_>,
 ) -> io::Result<()>
-    requires m_lt_most_trades { m < most_trades }
-    requires filing { Filing claims.now lines }
+    requires { m < most_trades }
 {
-    let mut claim = [0u32; TradeLines::MOST];
-    let mut customers = [0u32; TradeLines::MOST];
-    let mut fill = [0u32; TradeLines::MOST];
-    let k = claims::gather(claims, m, &mut claim, &mut customers);
-    checker::gather_fills(claims, lines, said, m, &mut fill);
-    writeln!(out, "filled {}", fairness::total(&fill, k))?;
-    if is_trade_fault(sheet.no) {
-        if sheet.at == m {
-            return say_trade_fault(out, claims, m, &claim, &customers, &fill, k, due, sheet.no);
+    let mut portions = [Portion::NOTHING; TradeLines::MOST];
+    let many = claims::gather(day.claims, m, &mut portions);
+    checker::gather_fills(day.claims, day.lines, sheet.said, m, &mut portions);
+    let portions = &portions[..many];
+    writeln!(out, "filled {}", fairness::total(portions))?;
+    match sheet.refused {
+        Some(Refused { refusal, place }) if place == m => {
+            say_trade_fault(out, day, m, due, portions, refusal)
         }
+        _ => Ok(()),
     }
-    Ok(())
 }
 
-// Trade m of a journal with so many orders: its claims and what is due, and what the sheet fills of it.
-pub fn tell_trade<W: Write>(
-    out: &mut W,
-    claims: &[u32; Line::WORDS],
-    trades: &[u32; Trades::WORDS],
-    shown: &[u32; Shown::WORDS],
-    said: &[u32; Said::WORDS],
-    lines: usize,
-    m: usize,
-    sheet: Sheet,
-) -> io::Result<()>
-    requires m_lt_most_trades { m < most_trades }
-    requires filing { Filing claims.now lines }
+// Trade m: its claims and what is due, and what the sheet fills of it.
+pub fn tell_trade<W: Write>(out: &mut W, day: Day<'_>, m: usize, sheet: Sheet<'_>) -> io::Result<()>
+    requires { m < most_trades }
 {
-    let k = claims::lines_of(claims, m);
-    write!(out, "Trade {m}")?;
-    telling::say_contracts(out, order::trade_at(trades, shown, m))?;
-    writeln!(out, "; Satisfaction Orders: {k}")?;
-    if k == 0 {
+    let orders = claims::lines_of(day.claims, m);
+    writeln!(
+        out,
+        "Trade {m}: {}; Satisfaction Orders: {orders}",
+        day.trade(m)
+    )?;
+    if orders == 0 {
         return Ok(());
     }
-    let due = claims::due_total(claims, trades, m);
-    say_due(out, claimed(claims, m), due)?;
-    say_whose(out, sheet.own)?;
-    if sheet.lines < lines {
+    let due = day.due(m);
+    say_due(out, day.claimed(m), due)?;
+    write!(out, "{}", whose(sheet.own))?;
+    if sheet.reach.lines < day.lines {
         return writeln!(out, "not read to its end");
     }
-    tell_fills(out, claims, said, lines, m, due, sheet)
+    tell_fills(out, day, m, due, sheet)
 }

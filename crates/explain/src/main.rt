@@ -4,163 +4,105 @@
 #![tactic(auto)]
 
 ghost use Rattle.std.specs.Prelude.{◌≤◌, ◌<◌};
-ghost use Rattle.rules.specs.Limits.{most_trades, most_satisfaction_orders};
-ghost use Rattle.claims.specs.Lines.{Filing};
+ghost use Rattle.rules.specs.Limits.{most_satisfaction_orders};
+ghost use Rattle.list.specs.Listing.{most_rows};
 
 use beside::Sheet;
-use cancelled::Cancelled;
 use claims::Line;
 use counted::{SatisfactionOrder, Trade};
-use feed::{Input, Room};
-use journal::Rewritten;
+use feed::Room;
+use feed::records::Records;
 use list::Row;
-use reasons::Reason;
-use said::{Checked, Said};
+use order::Day;
+use rows::Refused;
+use said::Said;
 use std::io::{BufWriter, Write};
 use std::{env, io};
-use survey::Surveyed;
 use trades::{Shown, Trades};
 
 mod beside;
 mod cancelled;
 mod order;
 mod received;
-mod records;
 mod telling;
 mod words;
 
-// One order of so many, and its line in the sheet.
-fn told_order<W: Write>(
-    out: &mut W,
-    claims: &[u32; Line::WORDS],
-    trades: &[u32; Trades::WORDS],
-    shown: &[u32; Shown::WORDS],
-    said: &[u32; Said::WORDS],
-    cancelled: &[u32; SatisfactionOrder::MOST],
-    lines: usize,
-    i: usize,
-    close: u32,
-    sheet: Sheet,
-) -> io::Result<()>
-    requires { (i < most_satisfaction_orders) × Filing claims.now lines }
+// One order, and its line in the sheet.
+fn told_order<W: Write>(out: &mut W, day: Day<'_>, i: usize, sheet: Sheet<'_>) -> io::Result<()>
+    requires { i < most_satisfaction_orders }
 {
-    let order = order::order_at(claims, cancelled, i);
-    let m = rows::index(order.trade);
+    let order = day.order(i);
+    let m = order.trade;
     if Trade::MOST <= m {
         return Ok(());
     }
-    let turn = order::turn_at(claims, m, order.sender, i);
-    telling::tell(out, order, turn, trades, shown, m, close)?;
-    let due = claims::due_total(claims, trades, m);
+    telling::tell(out, day, order, m)?;
+    let due = day.due(m);
     writeln!(out, "  due to all orders for the trade: {due}")?;
-    let shared = order.reason == Reason::NONE && due < beside::claimed(claims, m);
-    beside::tell_line(out, said, order, i, sheet, shared)
-}
-
-fn tell_orders<W: Write>(
-    out: &mut W,
-    claims: &[u32; Line::WORDS],
-    trades: &[u32; Trades::WORDS],
-    shown: &[u32; Shown::WORDS],
-    said: &[u32; Said::WORDS],
-    cancelled: &[u32; SatisfactionOrder::MOST],
-    lines: usize,
-    close: u32,
-    sheet: Sheet,
-) -> io::Result<()>
-    requires { (lines ≤ most_satisfaction_orders) × Filing claims.now lines }
-{
-    for i in 0..lines {
-        told_order(
-            out, claims, trades, shown, said, cancelled, lines, i, close, sheet,
-        )?;
-    }
-    Ok(())
-}
-
-fn tell_trades<W: Write>(
-    out: &mut W,
-    claims: &[u32; Line::WORDS],
-    trades: &[u32; Trades::WORDS],
-    shown: &[u32; Shown::WORDS],
-    said: &[u32; Said::WORDS],
-    traded: usize,
-    lines: usize,
-    sheet: Sheet,
-) -> io::Result<()>
-    requires { (traded ≤ most_trades) × Filing claims.now lines }
-{
-    for m in 0..traded {
-        beside::tell_trade(out, claims, trades, shown, said, lines, m, sheet)?;
-    }
-    Ok(())
+    let shared = order.reason.is_none() && due < day.claimed(m);
+    beside::tell_line(out, order, sheet, shared)
 }
 
 // Every order, then every trade, each with what the sheet says beside it.
-fn tell<W: Write>(
-    out: &mut W,
-    claims: &[u32; Line::WORDS],
-    trades: &[u32; Trades::WORDS],
-    shown: &[u32; Shown::WORDS],
-    said: &[u32; Said::WORDS],
-    cancelled: &[u32; SatisfactionOrder::MOST],
-    traded: usize,
-    lines: usize,
-    close: u32,
-    sheet: Sheet,
-) -> io::Result<()>
-    requires traded_le_most_trades { (traded ≤ most_trades) × Filing claims.now lines }
-    requires lines_le_most_satisfaction_orders { lines ≤ most_satisfaction_orders }
-{
-    if lines == 0 {
+fn tell<W: Write>(out: &mut W, day: Day<'_>, sheet: Sheet<'_>) -> io::Result<()> {
+    if day.lines == 0 {
         writeln!(out, "no Satisfaction Order")?;
     }
-    tell_orders(
-        out, claims, trades, shown, said, cancelled, lines, close, sheet,
-    )?;
-    beside::tell_extra(out, sheet, lines)?;
-    tell_trades(out, claims, trades, shown, said, traded, lines, sheet)
+    for i in 0..day.lines {
+        told_order(out, day, i, sheet)?;
+    }
+    beside::tell_extra(out, sheet, day.lines)?;
+    for m in 0..day.traded {
+        beside::tell_trade(out, day, m, sheet)?;
+    }
+    Ok(())
 }
 
-// The journal with a sheet of its own or one that was handed in, which the check accepted (0) or refused. A refused journal has no tables.
+// The journal with a sheet of its own or one that was handed in, which the check may have refused. A refused journal has no tables.
 fn explain<W: Write>(
     out: &mut W,
     journal: &[u8],
     sheet: &[u8],
     own: bool,
-    no: u32,
-    at: usize,
+    refused: Option<Refused>,
 ) -> io::Result<()> {
     let mut trades = [0u32; Trades::WORDS];
     let mut shown = [0u32; Shown::WORDS];
     let mut claims = [0u32; Line::WORDS];
     let mut list = [0u32; Row::MOST * Row::WORDS];
-    let Surveyed::Whole {
-        trades: traded,
-        lines,
-        listed,
-    } = survey::survey(journal, &mut trades, &mut shown, &mut claims, &mut list)
-    else {
+    let Ok(whole) = survey::survey(journal, &mut trades, &mut shown, &mut claims, &mut list) else {
         return Ok(());
     };
-    let mut said = [0u32; Said::WORDS];
-    let reach = said::read_lines(sheet, lines, &mut said);
-    let told = Sheet {
-        own,
-        lines: reach.lines,
-        place: reach.place,
-        no,
-        at,
+    let Ok(front) = header::read_header(journal) else {
+        return Ok(());
     };
-    let front = header::read_header(journal);
-    let head = front.head;
-    let mut times = [Cancelled::NEVER; SatisfactionOrder::MOST];
-    cancelled::read(journal, front.used, head, &mut times);
-    let close = head.close;
-    tell(
-        out, &claims, &trades, &shown, &said, &times, traded, lines, close, told,
-    )?;
-    received::tell(out, journal, front.used, head, &list, listed)
+    let mut said = [Said::NOTHING; SatisfactionOrder::MOST];
+    let reach = said::read_lines(sheet, whole.lines, &mut said);
+    let sheet = Sheet {
+        own,
+        said: &said,
+        reach,
+        refused,
+    };
+    let records = Records::behind(front.head, &journal[front.used..]);
+    let times = cancelled::read(records);
+    let day = Day {
+        claims: &claims,
+        trades: &trades,
+        shown: &shown,
+        lines: whole.lines,
+        traded: whole.trades,
+        times: &times,
+        close: front.head.close,
+    };
+    tell(out, day, sheet)?;
+    received::tell(out, records, &list, whole.listed)
+}
+
+// On standard output; where that fails it is said.
+fn print(rt: &HostRuntime, journal: &[u8], sheet: &[u8], own: bool, refused: Option<Refused>) {
+    let printed = print_explained(rt, journal, sheet, own, refused);
+    feed::or_say(rt, "standard output", printed);
 }
 
 fn print_explained(
@@ -168,77 +110,49 @@ fn print_explained(
     journal: &[u8],
     sheet: &[u8],
     own: bool,
-    no: u32,
-    at: usize,
+    refused: Option<Refused>,
 ) -> io::Result<()> {
     let mut out = BufWriter::new(rt.alloc(), rt.stdout())?;
-    explain(&mut out, journal, sheet, own, no, at)?;
+    explain(&mut out, journal, sheet, own, refused)?;
     out.flush()
 }
 
-// On standard output; where that fails it is said.
-fn print(rt: &HostRuntime, journal: &[u8], sheet: &[u8], own: bool, no: u32, at: usize) {
-    if let Err(error) = print_explained(rt, journal, sheet, own, no, at) {
-        feed::failed(rt, "standard output", error);
-    }
-}
-
-fn explain_own(rt: &HostRuntime, journal: &[u8], sheet: &[u8], n: usize) {
-    if n <= sheet.len() {
-        print(rt, journal, &sheet[..n], true, 0, 0);
-    }
-}
-
-// The journal on standard input with our own sheet, or its refusal.
-fn explain_input(rt: &HostRuntime) {
-    let mut journal = [0u8; Room::JOURNAL_INPUT];
+// The journal with our own sheet, or its refusal.
+fn explain_own(rt: &HostRuntime, journal: &[u8]) {
     let mut sheet = [0u8; Room::OWN_SHEET];
-    let Input::Taken(n) = feed::standard_input(rt, &mut journal) else {
-        return;
-    };
-    match answers::write_sheet(&journal[..n], &mut sheet) {
-        Rewritten::Unwritten { no, place } => feed::refused(&mut rt.stdout(), no, place),
-        Rewritten::Written { bytes } => explain_own(rt, &journal[..n], &sheet, bytes),
+    match answers::write_sheet(journal, &mut sheet) {
+        Ok(bytes) => {
+            if let Some(own) = sheet.get(..bytes) {
+                print(rt, journal, own, true, None);
+            }
+        }
+        Err(refused) => feed::say_refused(&mut rt.stdout(), refused),
     }
 }
 
+// A sheet that was handed in: first the check's answer.
 fn explain_checked(rt: &HostRuntime, journal: &[u8], sheet: &[u8]) {
-    match answers::check_sheet(journal, sheet) {
-        Checked::Accepted => {
-            feed::print(rt, "accepted\n");
-            print(rt, journal, sheet, false, 0, 0);
-        }
-        Checked::Refused { no, place } => {
-            feed::refused(&mut rt.stdout(), no, place);
-            print(rt, journal, sheet, false, no, place);
-        }
+    let refused = answers::check_sheet(journal, sheet).err();
+    match refused {
+        Some(refused) => feed::say_refused(&mut rt.stdout(), refused),
+        None => feed::print(rt, "accepted\n"),
     }
-}
-
-// `explain JOURNAL SHEET`
-fn explain_files(rt: &HostRuntime, journal_name: &str, sheet_name: &str) {
-    let mut journal = [0u8; Room::JOURNAL_INPUT];
-    let mut sheet = [0u8; Room::SHEET_INPUT];
-    let Input::Taken(n) = feed::file(rt, journal_name, &mut journal) else {
-        return;
-    };
-    let Input::Taken(k) = feed::file(rt, sheet_name, &mut sheet) else {
-        return;
-    };
-    explain_checked(rt, &journal[..n], &sheet[..k]);
+    print(rt, journal, sheet, false, refused);
 }
 
 fn main(rt: HostRuntime) {
-    match env::args(&rt) {
-        Ok(mut words) => match (words.next(), words.next(), words.next(), words.next()) {
-            (_, Some(journal), Some(sheet), None) => {
-                explain_files(&rt, journal.as_str(), sheet.as_str());
-            }
-            (_, None, _, _) => explain_input(&rt),
-            _ => {
-                let _ = eprintln!(rt; "usage: explain, or explain JOURNAL SHEET");
-            }
-        },
-        Err(error) => feed::failed(&rt, "argument", error),
+    let Some(mut words) = feed::or_say(&rt, "argument", env::args(&rt)) else {
+        return;
+    };
+    match (words.next(), words.next(), words.next(), words.next()) {
+        (_, Some(journal), Some(sheet), None) => {
+            feed::with_files(&rt, journal.as_str(), sheet.as_str(), |journal, sheet| {
+                explain_checked(&rt, journal, sheet);
+            });
+        }
+        (_, None, _, _) => feed::with_journal(&rt, |journal| explain_own(&rt, journal)),
+        _ => {
+            let _ = eprintln!(rt; "usage: explain, or explain JOURNAL SHEET");
+        }
     }
 }

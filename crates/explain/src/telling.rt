@@ -3,15 +3,11 @@ ghost use Rattle.std.specs.Prelude.{◌<◌, ◌≤◌};
 ghost use Rattle.rules.specs.Limits.{most_trades};
 ghost use Rattle.rules.specs.Reasons.{three_minutes};
 
-use crate::cancelled::Cancelled;
-use crate::order::{Order, There, Traded, Turn};
-use crate::words::Clock;
-use crate::{order, words};
-use prices::Side;
+use crate::order::{Day, Order, There, Through, Traded, Turn};
+use crate::words::{Clock, Why};
 use reasons::{Claim, Reason, Receipt};
 use std::io;
 use std::io::Write;
-use trades::{Shown, Trades};
 
 fn say_order<W: Write>(out: &mut W, order: Order) -> io::Result<()> {
     writeln!(
@@ -21,56 +17,45 @@ fn say_order<W: Write>(out: &mut W, order: Order) -> io::Result<()> {
     )
 }
 
-pub fn say_contracts<W: Write>(out: &mut W, traded: Traded) -> io::Result<()> {
-    write!(
-        out,
-        ": {} contracts at {} cents in series {}",
-        traded.size, traded.price, traded.series
-    )
-}
-
 fn say_marks<W: Write>(out: &mut W, traded: Traded) -> io::Result<()> {
-    if traded.block == 1 {
+    if traded.block {
         write!(out, ", a block")?;
     }
-    if traded.complex == 1 {
+    if traded.complex {
         write!(out, ", complex")?;
     }
     if traded.initiator != 0 {
         write!(out, ", initiated by exchange {}", traded.initiator)?;
     }
-    if traded.closing == 1 {
+    if traded.closing {
         write!(out, ", after the closing record")?;
     }
     Ok(())
 }
 
 fn say_trade<W: Write>(out: &mut W, traded: Traded) -> io::Result<()> {
-    write!(out, "  the trade")?;
-    say_contracts(out, traded)?;
-    write!(out, ", reported at {}", Clock(rows::wide(traded.report)))?;
+    let report = Clock(u64::from(traded.report));
+    write!(out, "  the trade: {traded}, reported at {report}")?;
     say_marks(out, traded)?;
     writeln!(out)
 }
 
 // "An away exchange is traded through if its bid is above the price or its offer below it."
 fn say_through<W: Write>(out: &mut W, there: There, customers: u32) -> io::Result<()> {
-    if there.side == Side::NEITHER {
+    let Some(Through { side, price }) = there.through else {
         return writeln!(out, "  not traded through");
-    }
-    if there.side == Side::BID {
-        write!(out, "  traded through: its bid of {}", there.price)?;
-    } else {
-        write!(out, "  traded through: its offer of {}", there.price)?;
-    }
-    writeln!(out, " cents, {customers} customer contracts")
+    };
+    writeln!(
+        out,
+        "  traded through: its {side} of {price} cents, {customers} customer contracts"
+    )
 }
 
 // The last moment in time: so long after the report, or after a cancellation.
 fn until(from: u32, allowed: u64) -> u64
     requires { allowed ≤ three_minutes }
 {
-    rows::wide(from) + allowed
+    u64::from(from) + allowed
 }
 
 fn say_allowed<W: Write>(out: &mut W, allowed: u64, initiator: u32) -> io::Result<()> {
@@ -90,19 +75,10 @@ fn say_time<W: Write>(out: &mut W, time: u32, traded: Traded, close: u32) -> io:
     write!(
         out,
         "  received at {}; in time until {}",
-        Clock(rows::wide(time)),
+        Clock(u64::from(time)),
         Clock(until(traded.report, allowed))
     )?;
     say_allowed(out, allowed, traded.initiator)
-}
-
-// How long after one record another came: one that cancels an order after that order, an order that is sent again after the cancellation, and a
-// received order after an execution. Each stands after the other, and so is no earlier.
-pub fn since(before: u32, after: u32) -> u32 {
-    if after < before {
-        return 0;
-    }
-    after - before
 }
 
 // "The first keeps the reason it has", and its exchange "may send again within three minutes".
@@ -110,7 +86,7 @@ fn say_first<W: Write>(out: &mut W, sender: u32, cancelled: u32) -> io::Result<(
     writeln!(
         out,
         "  cancelled at {} as priced for a block that was none; it keeps its reason, and nothing of it is filled",
-        Clock(rows::wide(cancelled))
+        Clock(u64::from(cancelled))
     )?;
     writeln!(
         out,
@@ -121,16 +97,17 @@ fn say_first<W: Write>(out: &mut W, sender: u32, cancelled: u32) -> io::Result<(
 
 // 15, in the place of 8 and 9: "later than 180,000 ms after the cancellation".
 fn say_second<W: Write>(out: &mut W, time: u32, first: usize, cancelled: u32) -> io::Result<()> {
-    let after = rows::wide(since(cancelled, time));
+    // an order that is sent again stands behind the cancellation
+    let after = u64::from(time.saturating_sub(cancelled));
     writeln!(
         out,
         "  sent again after order {first} was cancelled at {}; judged from then, and not from the report",
-        Clock(rows::wide(cancelled))
+        Clock(u64::from(cancelled))
     )?;
     write!(
         out,
         "  received at {}, {} after the cancellation; the limit is three minutes: ",
-        Clock(rows::wide(time)),
+        Clock(u64::from(time)),
         Clock(after)
     )?;
     if Receipt::THREE_MINUTES < after {
@@ -158,25 +135,23 @@ fn say_received<W: Write>(
     }
 }
 
-fn say_minutes<W: Write>(out: &mut W, minutes: u64) -> io::Result<()> {
+fn in_words(minutes: u64) -> &'static str {
     if minutes == Receipt::ONE_MINUTE {
-        write!(
-            out,
-            "one minute for an order received five minutes before the close or later"
-        )
+        "one minute for an order received five minutes before the close or later"
     } else {
-        write!(out, "three minutes")
+        "three minutes"
     }
 }
 
 // "A cancellation in time makes reason 14, judged after 9 and before 11 ..; a late one cancels and changes nothing."
-fn say_outcome<W: Write>(out: &mut W, in_time: bool, reason: u32) -> io::Result<()> {
+fn say_outcome<W: Write>(out: &mut W, in_time: bool, reason: Option<Reason>) -> io::Result<()> {
     if !in_time {
         return writeln!(out, ": late, and changes nothing");
     }
     write!(out, ": in time")?;
-    if reason != Reason::INITIATOR_NAMED {
-        write!(out, ", but reason {reason} is judged before it and stands")?;
+    if reason != Some(Reason::InitiatorNamed) {
+        let stands = Reason::stored(reason);
+        write!(out, ", but reason {stands} is judged before it and stands")?;
     }
     writeln!(out)
 }
@@ -188,42 +163,40 @@ fn say_cancelled<W: Write>(
     initiator: u32,
     close: u32,
 ) -> io::Result<()> {
-    if order.cancelled == Cancelled::NEVER {
+    let Some(cancelled) = order.cancelled else {
         return Ok(());
-    }
+    };
+    // the record that cancels an order stands behind it
+    let after = cancelled.saturating_sub(order.time);
     write!(
         out,
-        "  cancelled at {} and exchange {initiator} named, {} after it was received; the limit is ",
-        Clock(rows::wide(order.cancelled)),
-        Clock(rows::wide(since(order.time, order.cancelled)))
+        "  cancelled at {} and exchange {initiator} named, {} after it was received; the limit is {}",
+        Clock(u64::from(cancelled)),
+        Clock(u64::from(after)),
+        in_words(reasons::minutes_from(order.time, close))
     )?;
-    say_minutes(out, reasons::minutes_from(order.time, close))?;
     say_outcome(
         out,
-        reasons::in_time(order.time, close, order.cancelled),
+        reasons::in_time(order.time, close, cancelled),
         order.reason,
     )
 }
 
-fn say_required<W: Write>(out: &mut W, block: u32, side: u32) -> io::Result<()> {
-    if block == 1 {
-        return writeln!(out, " cents, the price of the block");
-    }
-    if side == Side::BID {
-        writeln!(out, " cents, the bid traded through")
-    } else {
-        writeln!(out, " cents, the offer traded through")
-    }
-}
-
 // 11 and 12: the order's own price beside "the one required".
 fn say_price<W: Write>(out: &mut W, asked: u32, traded: Traded, there: There) -> io::Result<()> {
-    if there.side == Side::NEITHER {
+    let Some(Through { side, price }) = there.through else {
         return Ok(());
+    };
+    let required = reasons::required(u32::from(traded.block), traded.price, price);
+    write!(
+        out,
+        "  its price {asked} cents; required {required} cents, the "
+    )?;
+    if traded.block {
+        writeln!(out, "price of the block")
+    } else {
+        writeln!(out, "{side} traded through")
     }
-    let required = reasons::required(traded.block, traded.price, there.price);
-    write!(out, "  its price {asked} cents; required {required}")?;
-    say_required(out, traded.block, there.side)
 }
 
 // "For a trade after it, each claim is also at most 10"
@@ -245,7 +218,7 @@ fn say_least<W: Write>(out: &mut W, size: u32, customers: u32, traded: u32) -> i
 // "0 for a reason other than 0; else the least of order size, customer contracts and trade size"
 fn say_claim<W: Write>(out: &mut W, order: Order, traded: u32) -> io::Result<()> {
     write!(out, "  claim {}", order.claim)?;
-    if order.reason != Reason::NONE {
+    if order.reason.is_some() {
         return writeln!(out, ": there is a reason");
     }
     let least = reasons::least_of(order.size, order.customers, traded);
@@ -256,26 +229,24 @@ fn say_claim<W: Write>(out: &mut W, order: Order, traded: u32) -> io::Result<()>
     writeln!(out)
 }
 
-// All of it, for an order of trade m in a journal with this close.
-pub fn tell<W: Write>(
-    out: &mut W,
-    order: Order,
-    turn: Turn,
-    trades: &[u32; Trades::WORDS],
-    shown: &[u32; Shown::WORDS],
-    m: usize,
-    close: u32,
-) -> io::Result<()>
+// All of it, for an order of trade m.
+pub fn tell<W: Write>(out: &mut W, day: Day<'_>, order: Order, m: usize) -> io::Result<()>
     requires { m < most_trades }
 {
-    let traded = order::trade_at(trades, shown, m);
-    let there = order::there_at(shown, m, order.sender);
+    let traded = day.trade(m);
+    let there = day.there(m, order.sender);
+    let turn = day.turn(m, order.sender, order.number);
     say_order(out, order)?;
     say_trade(out, traded)?;
     say_through(out, there, order.customers)?;
-    say_received(out, order, turn, traded, close)?;
-    say_cancelled(out, order, traded.initiator, close)?;
+    say_received(out, order, turn, traded, day.close)?;
+    say_cancelled(out, order, traded.initiator, day.close)?;
     say_price(out, order.asked, traded, there)?;
-    words::reason(out, order.reason, there.excuser, traded.initiator)?;
+    let why = Why {
+        reason: order.reason,
+        excuser: there.excuser,
+        initiator: traded.initiator,
+    };
+    writeln!(out, "  {why}")?;
     say_claim(out, order, traded.size)
 }

@@ -1,27 +1,20 @@
 // What the programs share: lent buffers filled from standard input or a named file, answers sent, refusals said. An answer goes to standard output, whatever is no answer to standard error.
 #![tactic(auto)]
 
-ghost use Rattle.std.specs.Prelude.{◌<◌, length, take, IfOk};
+ghost use Rattle.std.specs.Prelude.{◌≡◌, ◌<◌, ◌≤◌, length, take, IfOk, IfSome};
 ghost use Rattle.std.specs.Io.KnownBytes.{Consumes, IsAtEnd};
-ghost use Rattle.feed.specs.Filled.{Filled};
-ghost use Rattle.feed.specs.declared.Input.TheVariants.{Taken};
+ghost use Rattle.std.specs.Result.{result_ok};
 
 use counted::SatisfactionOrder;
-use journal::Rewritten;
 use number::Number;
+use rows::Refused;
 use std::fmt::Display;
 use std::io::{Read, Write};
 use std::rt::Files;
 use std::{fs, io};
-use text::Written;
 use walk::Journal;
 
-// How much of the buffer was filled, by all of the input or by as much as there is room for; or a read failed.
-#[derive(Clone, Copy)]
-pub enum Input {
-    Taken(usize),
-    Failed,
-}
+pub mod records;
 
 // How much memory the programs lend.
 #[derive(Drop)]
@@ -45,7 +38,7 @@ impl Room {
 
 // Reads until buf is full or the input ends. After an error some of buf may have been written over, and what was read so far is gone.
 pub fn take<R: Read>(reader: &mut R, buf: &mut [u8]) -> io::Result<usize>
-    ensures fills { IfOk result (λ n. Filled (length buf.new) (Taken n)) }
+    ensures fills { IfOk result (λ n. n ≤ length buf.new) }
     ensures bytes { IfOk result (λ n. Consumes (R.remaining reader.old) (R.remaining reader.new) (take n buf.new)) }
     ensures end { IfOk result (λ n. n < length buf.new → IsAtEnd (R.remaining reader.new)) }
 {
@@ -65,89 +58,106 @@ pub fn failed(rt: &impl Eprint, what: &str, error: io::Error) {
     let _ = eprintln!(rt; "{what}: {error}");
 }
 
-pub fn standard_input(rt: &(impl io::Input + Eprint), buf: &mut [u8]) -> Input
-    ensures { Filled (length buf.new) result }
+// What came of it. Where it failed that is said, and there is nothing.
+pub fn or_say<T>(rt: &impl Eprint, what: &str, outcome: io::Result<T>) -> Option<T>
+    ensures { result ≡ result_ok outcome }
 {
-    match take(&mut rt.reader(), buf) {
-        Ok(n) => Input::Taken(n),
+    match outcome {
+        Ok(value) => Some(value),
         Err(error) => {
-            failed(rt, "standard input", error);
-            Input::Failed
+            failed(rt, what, error);
+            None
         }
     }
 }
 
+// How much of the buffer was filled, by all of the input or by as much as there is room for; nothing where a read failed.
+pub fn standard_input(rt: &(impl io::Input + Eprint), buf: &mut [u8]) -> Option<usize>
+    ensures { IfSome result (λ n. n ≤ length buf.new) }
+{
+    let taken = take(&mut rt.reader(), buf);
+    or_say(rt, "standard input", taken)
+}
+
 fn take_file(files: &impl Files, path: &str, buf: &mut [u8]) -> io::Result<usize>
-    ensures { IfOk result (λ n. Filled (length buf.new) (Taken n)) }
+    ensures { IfOk result (λ n. n ≤ length buf.new) }
 {
     let mut file = fs::open(files, path)?;
     take(&mut file, buf)
 }
 
-// Reads the file of this name.
-pub fn file(rt: &(impl Files + Eprint), path: &str, buf: &mut [u8]) -> Input
-    ensures { Filled (length buf.new) result }
+// The same of the file of this name.
+pub fn file(rt: &(impl Files + Eprint), path: &str, buf: &mut [u8]) -> Option<usize>
+    ensures { IfSome result (λ n. n ≤ length buf.new) }
 {
-    match take_file(rt, path, buf) {
-        Ok(n) => Input::Taken(n),
-        Err(error) => {
-            failed(rt, path, error);
-            Input::Failed
-        }
+    let taken = take_file(rt, path, buf);
+    or_say(rt, path, taken)
+}
+
+// The journal on standard input, handed on.
+pub fn with_journal<F: FnOnce(&[u8]) + Drop>(rt: &(impl io::Input + Eprint), then: F)
+    requires { F.IsAlwaysCallable then }
+{
+    let mut journal = [0u8; Room::JOURNAL_INPUT];
+    if let Some(n) = standard_input(rt, &mut journal) {
+        then(&journal[..n]);
     }
 }
 
-// Sends the first n bytes of out to standard output, and says whether it could.
-pub fn send(rt: &(impl Print + Eprint), out: &[u8], n: usize) -> bool {
-    if out.len() < n {
-        return false;
-    }
-    match rt.write_all(&out[..n]) {
-        Ok(()) => true,
-        Err(error) => {
-            failed(rt, "standard output", error);
-            false
-        }
-    }
+// The journal and the sheet in the files of two names, handed on.
+pub fn with_files<F: FnOnce(&[u8], &[u8]) + Drop>(
+    rt: &(impl Files + Eprint),
+    journal_name: &str,
+    sheet_name: &str,
+    then: F,
+)
+    requires { F.IsAlwaysCallable then }
+{
+    let mut journal = [0u8; Room::JOURNAL_INPUT];
+    let mut sheet = [0u8; Room::SHEET_INPUT];
+    let Some(n) = file(rt, journal_name, &mut journal) else {
+        return;
+    };
+    let Some(k) = file(rt, sheet_name, &mut sheet) else {
+        return;
+    };
+    then(&journal[..n], &sheet[..k]);
+}
+
+// Sends bytes to standard output; nothing where that fails.
+pub fn send(rt: &(impl Print + Eprint), bytes: &[u8]) -> Option<()> {
+    or_say(rt, "standard output", rt.write_all(bytes))
 }
 
 // Prints a text on standard output; where that fails it is said.
 pub fn print<D: Display + Drop>(rt: &(impl Print + Eprint), shown: D) {
-    if let Err(error) = rt.print(shown) {
-        failed(rt, "standard output", error);
-    }
+    or_say(rt, "standard output", rt.print(shown));
 }
 
-// "It prints `refused 2 at 0` (number, place)"
+// "It prints `refused 2 at 0` (number, place)": the line that `text` is proved to write.
 pub fn refused<W: Write>(to: &mut W, no: u32, place: usize) {
     let mut line = [0u8; Room::REFUSAL];
-    let Written::To(n) = text::write_refusal(&mut line, no, place) else {
-        return;
-    };
-    if n <= line.len() {
-        let _ = to.write_all(&line[..n]);
-    }
+    let width = text::refusal_width(no, place);
+    text::put_refusal(&mut line[..width], 0, no, place);
+    let _ = to.write_all(&line[..width]);
+}
+
+// The same of a refusal; `refused` is still given any number, and `text` writes the line, since that is proved and a Display would not be.
+pub fn say_refused<W: Write>(to: &mut W, what: Refused) {
+    refused(to, what.refusal.number(), what.place);
 }
 
 // What an entry wrote is sent; its refusal is said.
 pub fn answer<W: Write>(
     rt: &(impl Print + Eprint),
-    answered: Rewritten,
+    answered: Result<usize, Refused>,
     out: &[u8],
     refusals: &mut W,
 ) {
     match answered {
-        Rewritten::Written { bytes } => {
-            send(rt, out, bytes);
+        Ok(bytes) => {
+            out.get(..bytes).and_then(|sent| send(rt, sent));
         }
-        Rewritten::Unwritten { no, place } => refused(refusals, no, place),
+        Err(what) => say_refused(refusals, what),
     }
-}
-
-// The time so far after a record; past the day it only has to stay past it.
-pub fn later(time: u32, milliseconds: u32) -> u32 {
-    if u32::MAX - time < milliseconds {
-        return u32::MAX;
-    }
-    time + milliseconds
 }

@@ -27,12 +27,13 @@ impl Given {
     pub const RECORD_MOST: usize = 2 + Batch::WORDS;
 }
 
+#[tactic(auto, unfolding(crate::specs::Given::words_at))]
 pub fn head_of(numbers: &[u32]) -> Head
     requires { 3 + sizes_of most_exchanges ≤ length numbers.now }
     ensures { result ≡ head_from numbers.now }
 {
     let mut sizes = [0u32; FirmSize::WORDS];
-    rows::copy_first(&numbers[Head::FRONT..], FirmSize::WORDS, &mut sizes);
+    sizes.copy_from_slice(&numbers[Head::FRONT..Head::NUMBERS]);
     Head {
         home: numbers[0],
         exchanges: numbers[1],

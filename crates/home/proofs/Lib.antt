@@ -1,1 +1,2 @@
 pub mod HomeQuotes
+pub mod Tests

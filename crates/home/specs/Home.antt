@@ -1,5 +1,5 @@
 -- Home quotes: the code's answers as the paper's numbers, and what is promised of every history that the table holds.
-use Rattle.std.specs.Prelude.{◌≡◌, Bool, List, [], ℕ, if◌then◌else◌, ◌==◌}
+use Rattle.std.specs.Prelude.{◌≡◌, Option, Some, None, Bool, List, [], ℕ, if◌then◌else◌, ◌==◌}
 use Rattle.rules.specs.Basics.{◌when◌, ◌¦◌, first_of}
 use Rattle.rules.specs.Header.{Header}
 use Rattle.rules.specs.Record.{Quote}
@@ -9,11 +9,10 @@ use Rattle.rules.specs.Verdicts.{Verdict, verdict, the_bid, the_offer, neither, 
 use Rattle.rows.specs.Rows.{word}
 use Rattle.rows.specs.declared.Rec.{Rec}
 use Rattle.quotes.specs.Tables.{Quoted}
+use Rattle.prices.specs.Prices.{above_of, equal_of}
 use Rattle.home.specs.declared.HomeQuote.{HomeQuote}
 use Rattle.home.specs.declared.Against.{Against}
 use Rattle.home.specs.declared.Against.TheVariants.{Clear, Locked, Crossed}
-use Rattle.home.specs.declared.Found.{Found}
-use Rattle.home.specs.declared.Found.TheVariants.{At, Nowhere}
 
 -- ---- home's quote
 
@@ -52,12 +51,20 @@ against_as Clear = verdict 0 0 neither
 against_as (Locked exchange side) = verdict 1 exchange side
 against_as (Crossed exchange side) = verdict 2 exchange side
 
--- what a search for a side answers, as a verdict of a kind, or what stands instead
-unfoldable pub found_as : ℕ → Verdict → Found → Verdict
-found_as kind otherwise Nowhere = otherwise
-found_as kind otherwise (At exchange side) = verdict kind exchange side
+-- the test of a price against another's on the other side: above it, or equal to it
+unfoldable pub test_of : ℕ → ℕ → ℕ → Bool
+test_of kind a b = if kind == 2 then above_of a b else equal_of a b
 
-pub record FoundIs (quotes : List ℕ) (exchanges home kind : ℕ) (quote : HomeQuote) (r : Found) : Type 0 where
+-- calls that answer so
+pub record Tests (calls : ℕ → ℕ → Bool → Type 0) (kind : ℕ) : Type 0 where
+  pub so : (a b : ℕ) (r : Bool) → calls a b r → r ≡ test_of kind a b
+
+-- what a search for a side answers, as a verdict of a kind, or what stands instead
+unfoldable pub found_as : ℕ → Verdict → Option (ℕ × ℕ) → Verdict
+found_as kind otherwise None = otherwise
+found_as kind otherwise (Some at) = verdict kind at.0 at.1
+
+pub record FoundIs (quotes : List ℕ) (exchanges home kind : ℕ) (quote : HomeQuote) (r : Option (ℕ × ℕ)) : Type 0 where
   pub so : (h : Header) (past : History) (otherwise : Verdict) → h.exchanges ≡ exchanges → h.home ≡ home → Quoted past quotes
       → found_as kind otherwise r ≡ lowest_named kind (side_at kind quote past) (away h) otherwise
 

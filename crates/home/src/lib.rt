@@ -1,10 +1,10 @@
 // The verdict on a home quote: crossed, locked or clear.
 #![tactic(auto)]
 
-ghost use Rattle.std.specs.Prelude.{◌≡◌, ◌≤◌, ◌<◌};
+ghost use Rattle.std.specs.Prelude.{◌≡◌, ℕ, ◌≤◌, ◌<◌};
 ghost use Rattle.rules.specs.Limits.{most_exchanges};
 ghost use Rattle.quotes.specs.Tables.{many_series};
-ghost use Rattle.home.specs.Home.{homes_of, side_of, QuoteIs, FoundIs, AgainstIs};
+ghost use Rattle.home.specs.Home.{homes_of, Tests, QuoteIs, FoundIs, AgainstIs};
 
 use prices::Side;
 use quotes::{Quote, Quotes};
@@ -34,18 +34,11 @@ impl Against {
     pub const CROSSED: u32 = 2;
 }
 
-// Where a search for a side ended: an exchange and the side, or nowhere.
-#[derive(Clone, Copy)]
-pub enum Found {
-    At(u32, u32),
-    Nowhere,
-}
-
+#[tactic(auto, unfolding(crate::specs::Home::homes_of))]
 pub fn is_home(r: Rec, home: usize) -> bool
     ensures { result ≡ homes_of r home }
 {
-    let row = r.row;
-    rows::index(row[0]) == home
+    r.row[0] as usize == home
 }
 
 pub fn quote_of(r: Rec) -> HomeQuote
@@ -53,70 +46,41 @@ pub fn quote_of(r: Rec) -> HomeQuote
 {
     let row = r.row;
     HomeQuote {
-        series: rows::index(row[1]),
+        series: row[1] as usize,
         bid: row[Quote::BID],
         offer: row[Quote::OFFER],
     }
 }
 
-// "Crossed if its bid is above an away offer or its offer below an away bid; else locked if equal."
-fn side_against(verdict: u32, bid: u32, offer: u32, their_bid: u32, their_offer: u32) -> u32
-    ensures { result ≡ side_of verdict bid offer their_bid their_offer }
-{
-    if verdict == Against::CROSSED {
-        if prices::is_above(bid, their_offer) {
-            return Side::BID;
-        }
-        if prices::is_above(their_bid, offer) {
-            return Side::OFFER;
-        }
-        return Side::NEITHER;
-    }
-    if prices::is_equal(bid, their_offer) {
-        return Side::BID;
-    }
-    if prices::is_equal(offer, their_bid) {
-        return Side::OFFER;
-    }
-    Side::NEITHER
-}
-
+// The lowest away exchange against whose price on the other side the test holds of home's, and the side of home's quote:
 // "the lowest exchange of that kind is named"
-fn lowest_named(
+fn lowest_named<T: Fn(u32, u32) -> bool>(
     quotes: &[u32; Quotes::WORDS],
     exchanges: usize,
     home: usize,
-    verdict: u32,
     quote: HomeQuote,
-) -> Found
-    requires { (exchanges ≤ most_exchanges) × (quote.series < many_series) }
-    ensures { FoundIs quotes.now exchanges home verdict quote result }
+    test: T,
+) -> Option<(u32, u32)>
+    requires { (exchanges ≤ most_exchanges) × (quote.series < many_series) × T.IsAlwaysCallable test }
+    ensures { (kind : ℕ) → Tests (λ a b r. T.post test a b r) kind → FoundIs quotes.now exchanges home kind quote result }
 {
-    let mut y: usize = 0;
-    while y < exchanges {
-        let exchange = y + 1;
-        if exchange == home {
-            y += 1;
+    for y in 0..exchanges {
+        if y + 1 == home {
             continue;
         }
+        let named = (y + 1) as u32;
         let k = prices::place(y, quote.series);
-        let side = side_against(
-            verdict,
-            quote.bid,
-            quote.offer,
-            quotes[k + Quote::BID],
-            quotes[k + Quote::OFFER],
-        );
-        if side != Side::NEITHER {
-            let named = exchange as u32;
-            return Found::At(named, side);
+        if test(quote.bid, quotes[k + Quote::OFFER]) {
+            return Some((named, Side::BID));
         }
-        y += 1;
+        if test(quotes[k + Quote::BID], quote.offer) {
+            return Some((named, Side::OFFER));
+        }
     }
-    Found::Nowhere
+    None
 }
 
-// "Crossed wins over locked"
+// "Crossed if its bid is above an away offer or its offer below an away bid; else locked if equal."; "Crossed wins over locked"
 pub fn home_quote(
     quotes: &[u32; Quotes::WORDS],
     exchanges: usize,
@@ -126,15 +90,11 @@ pub fn home_quote(
     requires { (exchanges ≤ most_exchanges) × (quote.series < many_series) }
     ensures { AgainstIs quotes.now exchanges home quote result }
 {
-    let crossed = lowest_named(quotes, exchanges, home, Against::CROSSED, quote);
-    match crossed {
-        Found::At(exchange, side) => Against::Crossed(exchange, side),
-        Found::Nowhere => {
-            let locked = lowest_named(quotes, exchanges, home, Against::LOCKED, quote);
-            match locked {
-                Found::At(exchange, side) => Against::Locked(exchange, side),
-                Found::Nowhere => Against::Clear,
-            }
-        }
+    if let Some((exchange, side)) = lowest_named(quotes, exchanges, home, quote, prices::is_above) {
+        return Against::Crossed(exchange, side);
     }
+    if let Some((exchange, side)) = lowest_named(quotes, exchanges, home, quote, prices::is_equal) {
+        return Against::Locked(exchange, side);
+    }
+    Against::Clear
 }

@@ -18,7 +18,7 @@ use quotes::{Quotes, Statuses};
 use rows::{Rec, Seat};
 use text::What;
 
-// A line to be printed, as five words of the list. Of a Satisfaction Order A is the number of its line in our own sheet.
+// A line to be printed, as five words of the list, which is lent fixed memory. Of a Satisfaction Order A is the number of its line in our own sheet.
 #[derive(Drop)]
 pub struct Row;
 
@@ -45,7 +45,7 @@ fn put_shown(list: &mut [u32], listed: usize, event: u32, what: u8, a: u32, b: u
 {
     let at = listed * Row::WORDS;
     list[at + Row::EVENT] = event;
-    list[at + Row::WHAT] = what as u32;
+    list[at + Row::WHAT] = u32::from(what);
     list[at + Row::A] = a;
     list[at + Row::B] = b;
     list[at + Row::C] = c;

@@ -8,6 +8,7 @@ use mir.Val.{Fits}
 use mir.Syntax.{w32}
 use lib.Dec.{eqb}
 use borrow.Author.Tests.{eq-eqb, ne_eqb, eqb-true, not-true, not-false}
+use Rattle.std.specs.Int.{from_bool}
 use Rattle.rules.specs.Basics.{bit}
 use Rattle.rules.specs.Header.{Header}
 use Rattle.rules.specs.Record as paper
@@ -18,7 +19,7 @@ use Rattle.rules.specs.PrintedDay.{one_line, judged}
 use Rattle.rows.specs.Rows.{Reads, RecOk}
 use Rattle.rows.specs.declared.Rec.{Rec}
 use Rattle.quotes.specs.Tables.{many_series, Quoted, Statuses, Within}
-use Rattle.orders.specs.Orders.{Headed, Heads, OrderIs, sent_as, duty_as, SentIs}
+use Rattle.orders.specs.Orders.{Headed, Heads, OrderIs, sent_as, reason_number, duty_as, SentIs}
 use Rattle.orders.proofs.OrderVerdicts.{order_is, order_from, order_to, order_series}
 use Rattle.periods.specs.Periods.{Tidy, ReceivedIs, Requoted}
 use Rattle.periods.proofs.Keeping.{periods_stay}
@@ -33,7 +34,7 @@ use Rattle.home.specs.declared.Against.{Against}
 use Rattle.home.specs.declared.Against.TheVariants.{Clear, Locked, Crossed}
 use Rattle.orders.specs.declared.Order.{Order}
 use Rattle.orders.specs.declared.Sent.{Sent}
-use Rattle.orders.specs.declared.Sent.TheVariants.{Fine, NotShown, NotBest}
+use Rattle.orders.specs.declared.Reason.{Reason}
 use Rattle.orders.specs.declared.Duty.{Duty}
 use Rattle.orders.specs.declared.Duty.TheVariants.{NoDuty, Whole, AtLeast}
 use Rattle.through.specs.declared.Trade.{Trade}
@@ -54,31 +55,23 @@ module _ (against : Against) where
     unfolding judged_as against_as
     says_crossed e = record { so = λ event. rw e }
 
-module _ (answer : Sent) (number : ℕ) where
-  pub says_fine : answer ≡ Fine → SentSays answer number (S 0 number 0)
-  unfolding judged_as sent_as
-  says_fine e = record { so = λ event. rw e }
+pub says_sent : (answer : Sent) (number n : ℕ) → n ≡ sent_as answer → SentSays answer number (S n number 0)
+unfolding judged_as
+says_sent answer number n e = record { so = λ event. rw e }
 
-  pub says_not_shown : answer ≡ NotShown → SentSays answer number (S 1 number 0)
-  unfolding judged_as sent_as
-  says_not_shown e = record { so = λ event. rw e }
-
-  pub says_not_best : answer ≡ NotBest → SentSays answer number (S 2 number 0)
-  unfolding judged_as sent_as
-  says_not_best e = record { so = λ event. rw e }
-
-module _ (duty : Duty) (number : ℕ) where
-  pub says_none : duty ≡ NoDuty number → DutySays duty (R 0 0 number)
+module _ (duty : Duty) where
+  pub says_none : (reason : Reason) → duty ≡ NoDuty reason → (n : ℕ) → n ≡ reason_number reason → DutySays duty (R 0 0 n)
   unfolding judged_as duty_as
-  says_none e = record { so = λ event. rw e }
+  says_none reason e n en = record { so = λ event. rw (e, en) }
 
-  pub says_whole : duty ≡ Whole number → DutySays duty (R 1 number 0)
-  unfolding judged_as duty_as
-  says_whole e = record { so = λ event. rw e }
+  module _ (number : ℕ) where
+    pub says_whole : duty ≡ Whole number → DutySays duty (R 1 number 0)
+    unfolding judged_as duty_as
+    says_whole e = record { so = λ event. rw e }
 
-  pub says_least : duty ≡ AtLeast number → DutySays duty (R 2 number 0)
-  unfolding judged_as duty_as
-  says_least e = record { so = λ event. rw e }
+    pub says_least : duty ≡ AtLeast number → DutySays duty (R 2 number 0)
+    unfolding judged_as duty_as
+    says_least e = record { so = λ event. rw e }
 
 -- ---- what the code took out of a record is what the paper names
 
@@ -100,6 +93,10 @@ module _ (r : Rec) (e : Event) (reads : Reads e r) where
   -- of one kind, and so of no other
   kind_other : (k j : ℕ) → r.kind ≡ k → (k ≡ j → ⊥) → eqb e.kind j ≡ false
   kind_other k j z ne = kind_not j (λ y. ne (sym z ∙ y))
+
+bit_is : (b : Bool) → from_bool b ≡ bit b
+bit_is true = refl
+bit_is false = refl
 
 -- ---- the kind decides
 
@@ -147,45 +144,43 @@ module _ (quotes statuses periods : List ℕ) (exchanges home : ℕ) (sizes : Li
               marked.kept h e past reads (reads.kind ∙ k1) (eqb-true (field e 0) h.home (home_is h e hd reads ∙ not-false b z)) stands;
         }
 
-  module _ (n1 : r.kind ≡ quote_kind → ⊥) where
-    pub judged_sent : r.kind ≡ sent_kind → Tidy periods → (v : Sent) (a : Judged) → SentSays v sent a → (order : Order) → SentIs quotes exchanges order v → OrderIs r order
-        → JudgedIs quotes statuses periods exchanges home sizes sent traded r periods a
-    unfolding judged
-    judged_sent k tidy v a says order is taken =
-        leaves_periods tidy (λ y. omega (arith, y, k)) (no_quote_lem tidy n1) a
-        (λ h e past hd reads held hs es et event.
-        rw (kind_not r e reads 1 n1, kind_is r e reads 4 k, ← es)
-        (says.so event ∙ ap (λ y. one_line event "S" (verdict y sent 0)) (is.so h past hd.exchanges held ∙ ap (sent_order h past) (order_is r e reads order taken))))
+  pub judged_sent : r.kind ≡ sent_kind → Tidy periods → (v : Sent) (a : Judged) → SentSays v sent a → (order : Order) → SentIs quotes exchanges order v → OrderIs r order
+      → JudgedIs quotes statuses periods exchanges home sizes sent traded r periods a
+  unfolding judged
+  judged_sent k tidy v a says order is taken =
+      leaves_periods tidy (λ y. omega (arith, y, k)) (no_quote_lem tidy (λ y. omega (arith, y, k))) a
+      (λ h e past hd reads held hs es et event.
+      rw (kind_other r e reads 4 1 k (λ z. omega arith), kind_is r e reads 4 k, ← es)
+      (says.so event ∙ ap (λ y. one_line event "S" (verdict y sent 0)) (is.so h past hd.exchanges held ∙ ap (sent_order h past) (order_is r e reads order taken))))
 
-    module _ (n4 : r.kind ≡ sent_kind → ⊥) where
-      pub judged_received : r.kind ≡ received_kind → (v : Duty) (a : Judged) → DutySays v a → (periods2 : List ℕ) → ReceivedIs quotes statuses periods exchanges home sizes r periods2 v
-          → JudgedIs quotes statuses periods exchanges home sizes sent traded r periods2 a
-      unfolding judged
-      judged_received k v a says periods2 is =
-          record {
-            tidy = is.tidy;
-            so = λ h e past hd reads held hs stands es et event.
-                rw (kind_not r e reads 1 n1, kind_not r e reads 4 n4, kind_is r e reads 6 k)
-                (says.so event ∙ ap (one_line event "R") (is.so h e past hd reads held hs stands));
-            kept = is.kept;
-          }
+  pub judged_received : r.kind ≡ received_kind → (v : Duty) (a : Judged) → DutySays v a → (periods2 : List ℕ) → ReceivedIs quotes statuses periods exchanges home sizes r periods2 v
+      → JudgedIs quotes statuses periods exchanges home sizes sent traded r periods2 a
+  unfolding judged
+  judged_received k v a says periods2 is =
+      record {
+        tidy = is.tidy;
+        so = λ h e past hd reads held hs stands es et event.
+            rw (kind_other r e reads 6 1 k (λ z. omega arith), kind_other r e reads 6 4 k (λ z. omega arith), kind_is r e reads 6 k)
+            (says.so event ∙ ap (one_line event "R") (is.so h e past hd reads held hs stands));
+        kept = is.kept;
+      }
 
-      module _ (n6 : r.kind ≡ received_kind → ⊥) where
-        pub judged_trade : r.kind ≡ trade_kind → Tidy periods → (c y : ℕ) (trade : Trade) → CountIs quotes exchanges home trade c → (b : Bool) → BlockIs quotes exchanges trade b → y ≡ bit b → TradeIs r trade
-            → JudgedIs quotes statuses periods exchanges home sizes sent traded r periods (T traded c y)
-        unfolding judged judged_as
-        judged_trade k tidy c y trade counted b block ey is =
-            leaves_periods tidy n6 (no_quote_lem tidy n1) (T traded c y)
-            (λ h e past hd reads held hs es et event.
-            let same = trade_is r e reads trade is in
-            rw (kind_not r e reads 1 n1, kind_not r e reads 4 n4, kind_not r e reads 6 n6, kind_is r e reads 3 k, ← et, ← counted.so h past (paper.trade e) hd.exchanges hd.home same held, ← block.so h past (paper.trade e) hd.exchanges same held, ey))
+  pub judged_trade : r.kind ≡ trade_kind → Tidy periods → (c y : ℕ) (trade : Trade) → CountIs quotes exchanges home trade c → (b : Bool) → BlockIs quotes exchanges trade b → y ≡ from_bool b → TradeIs r trade
+      → JudgedIs quotes statuses periods exchanges home sizes sent traded r periods (T traded c y)
+  unfolding judged judged_as
+  judged_trade k tidy c y trade counted b block ey is =
+      leaves_periods tidy (λ z. omega (arith, z, k)) (no_quote_lem tidy (λ z. omega (arith, z, k))) (T traded c y)
+      (λ h e past hd reads held hs es et event.
+      let same = trade_is r e reads trade is in
+      rw (kind_other r e reads 3 1 k (λ z. omega arith), kind_other r e reads 3 4 k (λ z. omega arith), kind_other r e reads 3 6 k (λ z. omega arith), kind_is r e reads 3 k, ← et, ← counted.so h past (paper.trade e) hd.exchanges hd.home same held, ← block.so h past (paper.trade e) hd.exchanges same held, ey ∙ bit_is b))
 
-        pub judged_other : (r.kind ≡ trade_kind → ⊥) → Tidy periods → JudgedIs quotes statuses periods exchanges home sizes sent traded r periods Nothing
-        unfolding judged judged_as
-        judged_other n3 tidy =
-            leaves_periods tidy n6 (no_quote_lem tidy n1) Nothing
-            (λ h e past hd reads held hs es et event.
-            rw (kind_not r e reads 1 n1, kind_not r e reads 4 n4, kind_not r e reads 6 n6, kind_not r e reads 3 n3))
+  pub judged_other : (r.kind ≡ quote_kind → ⊥) → (r.kind ≡ sent_kind → ⊥) → (r.kind ≡ received_kind → ⊥) → (r.kind ≡ trade_kind → ⊥) → Tidy periods
+      → JudgedIs quotes statuses periods exchanges home sizes sent traded r periods Nothing
+  unfolding judged judged_as
+  judged_other n1 n4 n6 n3 tidy =
+      leaves_periods tidy n6 (no_quote_lem tidy n1) Nothing
+      (λ h e past hd reads held hs es et event.
+      rw (kind_not r e reads 1 n1, kind_not r e reads 4 n4, kind_not r e reads 6 n6, kind_not r e reads 3 n3))
 
 -- ---- a quote by itself
 
@@ -225,4 +220,4 @@ module _ (exchanges home : ℕ) (r : Rec) (ok : RecOk exchanges home r) where
         low = order_series exchanges home r g order is;
       }
 
-pub ruleset judge_laws = (says_clear, says_locked, says_crossed, says_fine, says_not_shown, says_not_best, says_none, says_whole, says_least, home_judged, judged_away, it_is_home, judged_as_quote, judged_sent, judged_received, judged_trade, judged_other, quote_series, count_fits_lem, trade_series, sent_within)
+pub ruleset judge_laws = (says_clear, says_locked, says_crossed, says_sent, says_none, says_whole, says_least, home_judged, judged_away, it_is_home, judged_as_quote, judged_sent, judged_received, judged_trade, judged_other, quote_series, count_fits_lem, trade_series, sent_within)

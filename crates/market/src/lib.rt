@@ -17,7 +17,7 @@ use periods::Period;
 use quotes::{Quotes, Statuses};
 use rows::Rec;
 
-// What is printed of a record: its letter, and a, b, c.
+// What is printed of a record: its letter, and a, b, c. The definitions name each letter, so there is a variant for each.
 #[derive(Clone, Copy)]
 pub enum Judged {
     Nothing,
@@ -27,6 +27,7 @@ pub enum Judged {
     T(u32, u32, u32),
 }
 
+#[tactic(auto, using(crate::proofs::Judging::judge_laws))]
 fn quote_says(against: Against) -> Judged
     ensures { QuoteSays against result }
 {
@@ -37,27 +38,26 @@ fn quote_says(against: Against) -> Judged
     }
 }
 
+#[tactic(auto, using(crate::proofs::Judging::judge_laws))]
 fn sent_says(answer: Sent, number: u32) -> Judged
     ensures { SentSays answer number result }
 {
-    match answer {
-        Sent::Fine => Judged::S(Sent::FINE, number, 0),
-        Sent::NotShown => Judged::S(Sent::NOT_SHOWN, number, 0),
-        Sent::NotBest => Judged::S(Sent::NOT_BEST, number, 0),
-    }
+    Judged::S(answer.number(), number, 0)
 }
 
+#[tactic(auto, using(crate::proofs::Judging::judge_laws))]
 fn duty_says(duty: Duty) -> Judged
     ensures { DutySays duty result }
 {
     match duty {
-        Duty::NoDuty(reason) => Judged::R(Duty::NONE, 0, reason),
+        Duty::NoDuty(reason) => Judged::R(Duty::NONE, 0, reason.number()),
         Duty::Whole(contracts) => Judged::R(Duty::WHOLE, contracts, 0),
         Duty::AtLeast(contracts) => Judged::R(Duty::AT_LEAST, contracts, 0),
     }
 }
 
 // A home quote, which is also a later quote of the periods that stand.
+#[tactic(auto, using(crate::proofs::Judging::judge_laws))]
 pub fn judge_quote(
     quotes: &[u32; Quotes::WORDS],
     periods: &mut [u32; Period::WORDS],
@@ -75,6 +75,7 @@ pub fn judge_quote(
 
 // "Away quotes, statuses and responses print nothing."; what is printed of a Satisfaction Order is our own sheet's.
 // `sent` and `traded` count the sent orders and the trades before this record; `periods` stands as before it, and then as after it.
+#[tactic(auto, using(crate::proofs::Judging::judge_laws))]
 pub fn judge(
     quotes: &[u32; Quotes::WORDS],
     statuses: &[u32; Statuses::WORDS],
@@ -90,33 +91,26 @@ pub fn judge(
     requires sent_le_most_sent_orders { (sent ≤ most_sent_orders) × (traded ≤ most_trades) × Tidy periods.old }
     ensures { JudgedIs quotes.now statuses.now periods.old exchanges home sizes.now sent traded r periods.new result }
 {
-    if r.kind == Rec::QUOTE {
-        if !home::is_home(r, home) {
-            return Judged::Nothing;
+    match r.kind {
+        Rec::QUOTE => {
+            if !home::is_home(r, home) {
+                return Judged::Nothing;
+            }
+            judge_quote(quotes, periods, exchanges, home, r)
         }
-        return judge_quote(quotes, periods, exchanges, home, r);
-    }
-    if r.kind == Rec::SENT {
-        let number = sent as u32;
-        return sent_says(
-            orders::sent_order(quotes, exchanges, orders::order_of(r)),
-            number,
-        );
-    }
-    if r.kind == Rec::RECEIVED {
-        return duty_says(periods::received_order(
+        Rec::SENT => {
+            let order = orders::order_of(r);
+            sent_says(orders::sent_order(quotes, exchanges, order), sent as u32)
+        }
+        Rec::RECEIVED => duty_says(periods::received_order(
             quotes, statuses, periods, exchanges, home, sizes, r,
-        ));
+        )),
+        Rec::TRADE => {
+            let trade = through::trade_of(r);
+            let count = through::count_through(quotes, exchanges, home, trade) as u32;
+            let block = through::is_block(quotes, exchanges, trade);
+            Judged::T(traded as u32, count, u32::from(block))
+        }
+        _ => Judged::Nothing,
     }
-    if r.kind == Rec::TRADE {
-        let trade = through::trade_of(r);
-        let number = traded as u32;
-        let count = through::count_through(quotes, exchanges, home, trade) as u32;
-        return Judged::T(
-            number,
-            count,
-            rows::bit_of(through::is_block(quotes, exchanges, trade)),
-        );
-    }
-    Judged::Nothing
 }

@@ -8,6 +8,7 @@ use native.Mathlib.Numerals.{add-one}
 use lib.ListN.{get_or}
 use lib.Seq.{get_or-take}
 use borrow.Author.Tests.{eq-eqb, ne_eqb}
+use Rattle.std.specs.Prelude.{Some, None}
 use Rattle.rules.specs.Basics.{first_of}
 use Rattle.rules.specs.Limits.{most_exchanges}
 use Rattle.rules.specs.Header.{Header, automatic, principal, sizes_of}
@@ -22,7 +23,8 @@ use Rattle.quotes.specs.Tables.{many_series, Quoted, Statuses, Within}
 use Rattle.prices.specs.Prices.{above_of, equal_of, bid_of, offer_of, PlaceIs, BidIs, OfferIs}
 use Rattle.orders.specs.Orders.{Headed, Heads, as_order, OrderIs, worse_of, shown_at, best_at, sent_as, ShownIs, BestIs, SentIs, NoDutyIs, FirmIs}
 use Rattle.orders.specs.declared.Order.{Order}
-use Rattle.orders.specs.declared.Sent.TheVariants.{Fine, NotShown, NotBest}
+use Rattle.orders.specs.declared.Sent.TheVariants as sent
+use Rattle.orders.specs.declared.Reason.TheVariants.{AbsentOrWorse, NotBest, NonFirm}
 use Rattle.prices.proofs.BestPrices.{Shows, bid_shown, offer_shown}
 
 module _ (side there price : ℕ) (r : Bool) where
@@ -65,33 +67,33 @@ module _ (quotes : List ℕ) (exchanges series side r : ℕ) where
 -- ---- a sent order
 
 module _ (quotes : List ℕ) (exchanges : ℕ) (order : Order) (there : ℕ) (et : ShownIs quotes order.other order.series order.side there) (b : Bool) (eb : b ≡ equal_of order.price there) where
-  pub sent_not_shown : not b ≡ true → SentIs quotes exchanges order NotShown
+  pub sent_not_shown : not b ≡ true → SentIs quotes exchanges order sent.NotShown
   unfolding sent_as sent_order as_order first_of shown_at equal_of
   sent_not_shown z = record { so = λ h past en held. rw (← et.so past held, ← eb, z) }
 
   module _ (z : not b ≡ false) (p : ℕ) (ep : BestIs quotes exchanges order.series order.side p) where
-    pub sent_not_best : (there ≡ p → ⊥) → SentIs quotes exchanges order NotBest
+    pub sent_not_best : (there ≡ p → ⊥) → SentIs quotes exchanges order sent.NotBest
     unfolding sent_as sent_order as_order first_of shown_at equal_of best_at
     sent_not_best ne = record { so = λ h past en held. rw (← et.so past held, ← eb, z, ← ep.so h past en held, ne_eqb _ _ ne) }
 
-    pub sent_fine : there ≡ p → SentIs quotes exchanges order Fine
+    pub sent_fine : there ≡ p → SentIs quotes exchanges order sent.Fine
     unfolding sent_as sent_order as_order first_of shown_at equal_of best_at
     sent_fine e = record { so = λ h past en held. rw (← et.so past held, ← eb, z, ← ep.so h past en held, eq-eqb _ _ e) }
 
 -- ---- why there is no duty
 
 module _ (quotes statuses : List ℕ) (exchanges home : ℕ) (order : Order) (ours : ℕ) (et : ShownIs quotes home order.series order.side ours) where
-  pub duty_absent : ours ≡ 0 → NoDutyIs quotes statuses exchanges home order 1
+  pub duty_absent : ours ≡ 0 → NoDutyIs quotes statuses exchanges home order (Some AbsentOrWorse)
   unfolding no_duty as_order first_of shown_at
   duty_absent e = record { so = λ h past en eh held hs. rw (eh, ← et.so past held, eq-eqb _ _ e) }
 
   module _ (some : ours ≡ 0 → ⊥) (b : Bool) (eb : b ≡ worse_of order.side ours order.price) where
-    pub duty_worse : b ≡ true → NoDutyIs quotes statuses exchanges home order 1
+    pub duty_worse : b ≡ true → NoDutyIs quotes statuses exchanges home order (Some AbsentOrWorse)
     unfolding no_duty as_order first_of shown_at worse_of
     duty_worse z = record { so = λ h past en eh held hs. rw (eh, ← et.so past held, ← eb, ne_eqb _ _ some, z) }
 
     module _ (z : b ≡ false) (p : ℕ) (ep : BestIs quotes exchanges order.series order.side p) where
-      pub duty_not_best : (ours ≡ p → ⊥) → NoDutyIs quotes statuses exchanges home order 2
+      pub duty_not_best : (ours ≡ p → ⊥) → NoDutyIs quotes statuses exchanges home order (Some NotBest)
       unfolding no_duty as_order first_of shown_at worse_of best_at
       duty_not_best ne =
           record {
@@ -104,7 +106,7 @@ module _ (quotes statuses : List ℕ) (exchanges home : ℕ) (order : Order) (ou
         status_is past hs =
             hs.status (home - 1) (omega arith) ∙ ap (λ exchange. status_of exchange past) (add-one (home - 1) ∙ place_before home w.1.from_one)
 
-        pub duty_non_firm : get_or statuses (home - 1) 0 ≡ 1 → NoDutyIs quotes statuses exchanges home order 3
+        pub duty_non_firm : get_or statuses (home - 1) 0 ≡ 1 → NoDutyIs quotes statuses exchanges home order (Some NonFirm)
         unfolding no_duty as_order first_of shown_at worse_of best_at
         duty_non_firm e =
             record {
@@ -112,7 +114,7 @@ module _ (quotes statuses : List ℕ) (exchanges home : ℕ) (order : Order) (ou
                   rw (← ep.so h past en held, eh, ← et.so past held, ← eb, ne_eqb _ _ some, z, eq-eqb _ _ same, ← status_is past hs, eq-eqb _ _ e);
             }
 
-        pub duty_full : (get_or statuses (home - 1) 0 ≡ 1 → ⊥) → NoDutyIs quotes statuses exchanges home order 0
+        pub duty_full : (get_or statuses (home - 1) 0 ≡ 1 → ⊥) → NoDutyIs quotes statuses exchanges home order None
         unfolding no_duty as_order first_of shown_at worse_of best_at
         duty_full e =
             record {

@@ -1,5 +1,5 @@
 -- Orders: the code's order and answers as the paper's records and numbers, and what is promised of every history that the tables hold.
-use Rattle.std.specs.Prelude.{◌≡◌, Bool, List, ℕ, ◌≤◌, take}
+use Rattle.std.specs.Prelude.{◌≡◌, Option, Some, None, Bool, List, ℕ, ◌≤◌, take}
 use Rattle.rules.specs.Limits.{most_exchanges}
 use Rattle.rules.specs.Header.{Header, sizes_of}
 use Rattle.rules.specs.Record as paper
@@ -11,7 +11,9 @@ use Rattle.rows.specs.declared.Rec.{Rec}
 use Rattle.quotes.specs.Tables.{Quoted, Statuses}
 use Rattle.orders.specs.declared.Order.{Order}
 use Rattle.orders.specs.declared.Sent.{Sent}
-use Rattle.orders.specs.declared.Sent.TheVariants.{Fine, NotShown, NotBest}
+use Rattle.orders.specs.declared.Sent.TheVariants as sent
+use Rattle.orders.specs.declared.Reason.{Reason}
+use Rattle.orders.specs.declared.Reason.TheVariants.{AbsentOrWorse, NotBest, NonFirm, TooSoon}
 use Rattle.orders.specs.declared.Duty.{Duty}
 use Rattle.orders.specs.declared.Duty.TheVariants.{NoDuty, Whole, AtLeast}
 
@@ -59,13 +61,25 @@ best_at h side series past = best h side series past
 
 -- S
 unfoldable pub sent_as : Sent → ℕ
-sent_as Fine = 0
-sent_as NotShown = 1
-sent_as NotBest = 2
+sent_as sent.Fine = 0
+sent_as sent.NotShown = 1
+sent_as sent.NotBest = 2
+
+-- the numbers of the reasons
+abbrev pub reason_number : Reason → ℕ
+reason_number AbsentOrWorse = 1
+reason_number NotBest = 2
+reason_number NonFirm = 3
+reason_number TooSoon = 4
+
+-- "reason or 0"
+abbrev pub reason_as : Option Reason → ℕ
+reason_as None = 0
+reason_as (Some reason) = reason_number reason
 
 -- R: "0 none, 1 whole, 2 at least; contracts, 0 for none; reason or 0"
 unfoldable pub duty_as : Duty → Verdict
-duty_as (NoDuty reason) = verdict execute_none 0 reason
+duty_as (NoDuty reason) = verdict execute_none 0 (reason_number reason)
 duty_as (Whole contracts) = verdict execute_whole contracts 0
 duty_as (AtLeast contracts) = verdict execute_at_least contracts 0
 
@@ -78,8 +92,8 @@ pub record BestIs (quotes : List ℕ) (exchanges series side r : ℕ) : Type 0 w
 pub record SentIs (quotes : List ℕ) (exchanges : ℕ) (order : Order) (r : Sent) : Type 0 where
   pub so : (h : Header) (past : History) → h.exchanges ≡ exchanges → Quoted past quotes → sent_as r ≡ sent_order h past (as_order order)
 
-pub record NoDutyIs (quotes statuses : List ℕ) (exchanges home : ℕ) (order : Order) (r : ℕ) : Type 0 where
-  pub so : (h : Header) (past : History) → h.exchanges ≡ exchanges → h.home ≡ home → Quoted past quotes → Statuses past statuses → r ≡ no_duty h past (as_order order)
+pub record NoDutyIs (quotes statuses : List ℕ) (exchanges home : ℕ) (order : Order) (r : Option Reason) : Type 0 where
+  pub so : (h : Header) (past : History) → h.exchanges ≡ exchanges → h.home ≡ home → Quoted past quotes → Statuses past statuses → reason_as r ≡ no_duty h past (as_order order)
 
 pub record FirmIs (exchanges home : ℕ) (sizes : List ℕ) (order : Order) (r : ℕ) : Type 0 where
   pub so : (h : Header) → Heads h exchanges home sizes → r ≡ firm_size h (as_order order)

@@ -4,13 +4,13 @@
 ghost use Rattle.std.specs.Prelude.{◌≡◌, ◌≤◌, ◌<◌};
 ghost use Rattle.rules.specs.Limits.{most_exchanges};
 ghost use Rattle.quotes.specs.Tables.{many_series, Within};
-ghost use Rattle.orders.specs.Orders.{worse_of, Headed, OrderIs, ShownIs, BestIs, SentIs, NoDutyIs, FirmIs};
+ghost use Rattle.orders.specs.Orders.{worse_of, sent_as, reason_number, Headed, OrderIs, ShownIs, BestIs, SentIs, NoDutyIs, FirmIs};
 
 use limits::FirmSize;
 use quotes::{Quote, Quotes, Statuses};
 use rows::{Rec, Status, Type, Way};
 
-// What a record of kind 4 or 6 holds: `other` is "to" of a sent order, "from" of a received one.
+// What a record of kind 4 or 6 holds, its own words: `other` is "to" of a sent order, "from" of a received one.
 #[derive(Clone, Copy)]
 pub struct Order {
     pub kind: u32,
@@ -21,30 +21,49 @@ pub struct Order {
     pub size: u32,
 }
 
-// S.
-#[derive(Clone, Copy)]
+// S, by its number.
+#[derive(Clone, Copy, Debug, PartialEq, Eq)]
 pub enum Sent {
-    Fine,
-    NotShown,
-    NotBest,
+    Fine = 0,
+    NotShown = 1,
+    NotBest = 2,
 }
 
 impl Sent {
-    pub const FINE: u32 = 0;
+    #[tactic(auto, unfolding(crate::specs::Orders::sent_as))]
+    pub fn number(self) -> u32
+        ensures { result ≡ sent_as self }
+    {
+        self as u32
+    }
+}
 
-    pub const NOT_SHOWN: u32 = 1;
+// Why home has no duty, by its number; the last is of a further principal order, so soon after the initial execution.
+#[derive(Clone, Copy, Debug, PartialEq, Eq)]
+pub enum Reason {
+    AbsentOrWorse = 1,
+    NotBest = 2,
+    NonFirm = 3,
+    TooSoon = 4,
+}
 
-    pub const NOT_BEST: u32 = 2;
+impl Reason {
+    pub fn number(self) -> u32
+        ensures { result ≡ reason_number self }
+    {
+        self as u32
+    }
 }
 
 // R: none, and the reason; the whole order; at least so many contracts.
 #[derive(Clone, Copy)]
 pub enum Duty {
-    NoDuty(u32),
+    NoDuty(Reason),
     Whole(u32),
     AtLeast(u32),
 }
 
+// Its numbers, and those of a reason, where it was printed.
 impl Duty {
     pub const NONE: u32 = 0;
 
@@ -52,14 +71,11 @@ impl Duty {
 
     pub const AT_LEAST: u32 = 2;
 
-    pub const ABSENT_OR_WORSE: u32 = 1;
+    pub const ABSENT_OR_WORSE: u32 = Reason::AbsentOrWorse as u32;
 
-    pub const NOT_BEST: u32 = 2;
+    pub const NOT_BEST: u32 = Reason::NotBest as u32;
 
-    pub const NON_FIRM: u32 = 3;
-
-    // A further principal order, so soon after the initial execution.
-    pub const TOO_SOON: u32 = 4;
+    pub const NON_FIRM: u32 = Reason::NonFirm as u32;
 }
 
 pub fn order_of(r: Rec) -> Order
@@ -68,42 +84,48 @@ pub fn order_of(r: Rec) -> Order
     let row = r.row;
     Order {
         kind: row[0],
-        other: rows::index(row[1]),
-        series: rows::index(row[2]),
+        other: row[1] as usize,
+        series: row[2] as usize,
         side: row[3],
         price: row[4],
         size: row[5],
     }
 }
 
+#[tactic(auto, using(crate::proofs::OrderVerdicts::order_laws))]
 fn is_worse(side: u32, there: u32, price: u32) -> bool
     ensures { result ≡ worse_of side there price }
 {
     if side == Way::BUY {
-        return prices::is_above(there, price);
+        prices::is_above(there, price)
+    } else {
+        prices::is_above(price, there)
     }
-    prices::is_above(price, there)
 }
 
+#[tactic(auto, using(crate::proofs::OrderVerdicts::order_laws))]
 pub fn shown_price(quotes: &[u32; Quotes::WORDS], exchange: usize, series: usize, side: u32) -> u32
     requires { Within exchange series }
     ensures { ShownIs quotes.now exchange series side result }
 {
     let k = prices::place(exchange - 1, series);
     if side == Way::BUY {
-        return quotes[k + Quote::OFFER];
+        quotes[k + Quote::OFFER]
+    } else {
+        quotes[k + Quote::BID]
     }
-    quotes[k + Quote::BID]
 }
 
+#[tactic(auto, using(crate::proofs::OrderVerdicts::order_laws))]
 pub fn best_price(quotes: &[u32; Quotes::WORDS], exchanges: usize, series: usize, side: u32) -> u32
     requires { (exchanges ≤ most_exchanges) × (series < many_series) }
     ensures { BestIs quotes.now exchanges series side result }
 {
     if side == Way::BUY {
-        return prices::best_offer(quotes, exchanges, series);
+        prices::best_offer(quotes, exchanges, series)
+    } else {
+        prices::best_bid(quotes, exchanges, series)
     }
-    prices::best_bid(quotes, exchanges, series)
 }
 
 // "1 if its price is not the receiver's bid (sell) or offer (buy); else 2 if that is not the best; else 0."
@@ -121,34 +143,33 @@ pub fn sent_order(quotes: &[u32; Quotes::WORDS], exchanges: usize, order: Order)
     Sent::Fine
 }
 
-// Why home has no duty to a received order, or 0, of what does not look at earlier orders: "First that holds."
+// Why home has no duty to a received order, if so, of what does not look at earlier orders: "First that holds."
+#[tactic(auto, using(crate::proofs::OrderVerdicts::order_laws))]
 pub fn no_duty(
     quotes: &[u32; Quotes::WORDS],
     statuses: &[u32; Statuses::WORDS],
     exchanges: usize,
     home: usize,
     order: Order,
-) -> u32
+) -> Option<Reason>
     requires { (exchanges ≤ most_exchanges) × Within home order.series }
     ensures { NoDutyIs quotes.now statuses.now exchanges home order result }
 {
     let ours = shown_price(quotes, home, order.series, order.side);
-    if ours == 0 {
-        return Duty::ABSENT_OR_WORSE;
-    }
-    if is_worse(order.side, ours, order.price) {
-        return Duty::ABSENT_OR_WORSE;
+    if ours == 0 || is_worse(order.side, ours, order.price) {
+        return Some(Reason::AbsentOrWorse);
     }
     if ours != best_price(quotes, exchanges, order.series, order.side) {
-        return Duty::NOT_BEST;
+        return Some(Reason::NotBest);
     }
     if statuses[home - 1] == Status::NON_FIRM {
-        return Duty::NON_FIRM;
+        return Some(Reason::NonFirm);
     }
-    0
+    None
 }
 
 // "for P/A the lesser of both automatic sizes; for principal home's principal size"
+#[tactic(auto, using(crate::proofs::OrderVerdicts::order_laws))]
 pub fn firm_size(exchanges: usize, home: usize, sizes: &[u32; FirmSize::WORDS], order: Order) -> u32
     requires { Headed exchanges home × ((1 ≤ order.other) × (order.other ≤ exchanges)) }
     ensures { FirmIs exchanges home sizes.now order result }
@@ -156,7 +177,8 @@ pub fn firm_size(exchanges: usize, home: usize, sizes: &[u32; FirmSize::WORDS], 
     let ours = 2 * (home - 1);
     let theirs = 2 * (order.other - 1);
     if order.kind == Type::LINKED {
-        return rows::lesser(sizes[ours], sizes[theirs]);
+        sizes[ours].min(sizes[theirs])
+    } else {
+        sizes[ours + 1]
     }
-    sizes[ours + 1]
 }

@@ -6,6 +6,7 @@ use Prim.Native.Nat.{ℕ, ◌+◌, ◌-◌, ◌<◌, ◌≤◌, min}
 use native.Mathlib.Omega.{arith}
 use lib.Dec.{leb}
 use borrow.Author.Tests.{eq-eqb, ne_eqb, le-leb, lt-leb, lt-ltb, le-ltb}
+use Rattle.std.specs.Prelude.{Option, Some, None, ◌==◌}
 use Rattle.rules.specs.Limits.{most_exchanges}
 use Rattle.rules.specs.Header.{Header, principal}
 use Rattle.rules.specs.Journal.{History}
@@ -13,8 +14,10 @@ use Rattle.rules.specs.Verdicts.{no_duty, firm_size, no_duty_for, period_lasts, 
 use Rattle.rules.proofs.Periods.{as_first_lem, no_principal_order}
 use Rattle.quotes.specs.Tables.{many_series, Quoted, Statuses}
 use Rattle.prices.specs.Prices.{equal_of}
-use Rattle.orders.specs.Orders.{Headed, Heads, as_order, shown_at, best_at, duty_as, ShownIs, BestIs, NoDutyIs, FirmIs}
+use Rattle.orders.specs.Orders.{Headed, Heads, as_order, shown_at, best_at, reason_number, reason_as, duty_as, ShownIs, BestIs, NoDutyIs, FirmIs}
 use Rattle.orders.specs.declared.Order.{Order}
+use Rattle.orders.specs.declared.Reason.{Reason}
+use Rattle.orders.specs.declared.Reason.TheVariants.{AbsentOrWorse, NotBest, NonFirm, TooSoon}
 use Rattle.orders.specs.declared.Duty.{Duty}
 use Rattle.orders.specs.declared.Duty.TheVariants.{NoDuty, Whole, AtLeast}
 use Rattle.orders.proofs.OrderVerdicts.{home_within}
@@ -38,27 +41,27 @@ module _ (periods quotes : List ℕ) (exchanges home from time : ℕ) where
   unfolding period_at too_soon
   soon_none z = record { so = λ h past en eh held. rw (eq-eqb _ _ z) }
 
-  module _ (stands : period_word periods (from - 1) 0 ≡ 0 → ⊥) (begins : ℕ) (eb : (begins ≡ period_word periods (from - 1) 1) × (begins < 4294967296))
-      (now : ℕ) (en : (now ≡ time) × (now < 4294967296)) where
+  module _ (stands : period_word periods (from - 1) 0 ≡ 0 → ⊥) (begins : ℕ) (eb : begins ≡ period_word periods (from - 1) 1)
+      (now : ℕ) (en : now ≡ time) where
     pub soon_late : begins + 15000 < now → SoonIs periods quotes exchanges home from time false
     unfolding period_at too_soon
     soon_late late =
-        record { so = λ h past ex eh held. rw (ne_eqb _ _ stands, ← eb.0, ← en.0, lt-leb now (begins + no_duty_for) late) }
+        record { so = λ h past ex eh held. rw (ne_eqb _ _ stands, ← eb, ← en, lt-leb now (begins + no_duty_for) late) }
 
     module _ (early : now ≤ begins + 15000) where
       pub soon_quiet : period_word periods (from - 1) 5 ≡ 0 → SoonIs periods quotes exchanges home from time true
       unfolding period_at too_soon
       soon_quiet z =
-          record { so = λ h past ex eh held. rw (ne_eqb _ _ stands, ← eb.0, ← en.0, le-leb now (begins + no_duty_for) early, eq-eqb _ _ z) }
+          record { so = λ h past ex eh held. rw (ne_eqb _ _ stands, ← eb, ← en, le-leb now (begins + no_duty_for) early, eq-eqb _ _ z) }
 
-      pub soon_requoted : (period_word periods (from - 1) 5 ≡ 0 → ⊥) → (series : ℕ) → (series ≡ period_word periods (from - 1) 2) × (series < 4294967296) → (b : Bool)
+      pub soon_requoted : (period_word periods (from - 1) 5 ≡ 0 → ⊥) → (series : ℕ) → series ≡ period_word periods (from - 1) 2 → (b : Bool)
           → BestThereIs quotes exchanges home series (period_word periods (from - 1) 3) b → SoonIs periods quotes exchanges home from time (not b)
       unfolding period_at too_soon
       soon_requoted ne series es b best =
           record {
             so = λ h past ex eh held.
-                rw (ne_eqb _ _ stands, ← eb.0, ← en.0, le-leb now (begins + no_duty_for) early, ne_eqb _ _ ne)
-                (ap not (best.so h past _ ex eh (sym es.0) refl held));
+                rw (ne_eqb _ _ stands, ← eb, ← en, le-leb now (begins + no_duty_for) early, ne_eqb _ _ ne)
+                (ap not (best.so h past _ ex eh (sym es) refl held));
           }
 
 -- ---- still limited
@@ -73,18 +76,18 @@ module _ (periods : List ℕ) (from time : ℕ) where
     unfolding period_at still_limited
     limited_requoted ne = record { so = rw (ne_eqb _ _ stands, ne_eqb _ _ ne, and-false) }
 
-    module _ (quiet : period_word periods (from - 1) 5 ≡ 0) (begins : ℕ) (eb : (begins ≡ period_word periods (from - 1) 1) × (begins < 4294967296))
-        (now : ℕ) (en : (now ≡ time) × (now < 4294967296)) where
+    module _ (quiet : period_word periods (from - 1) 5 ≡ 0) (begins : ℕ) (eb : begins ≡ period_word periods (from - 1) 1)
+        (now : ℕ) (en : now ≡ time) where
       pub limited_early : now ≤ begins + 15000 → LimitedIs periods from time false
       unfolding period_at still_limited
-      limited_early early = record { so = rw (ne_eqb _ _ stands, ← eb.0, ← en.0, le-ltb (begins + no_duty_for) now early) }
+      limited_early early = record { so = rw (ne_eqb _ _ stands, ← eb, ← en, le-ltb (begins + no_duty_for) now early) }
 
       module _ (late : begins + 15000 < now) where
         pub limited_by : LimitedIs periods from time (leb now (begins + 60000))
         unfolding period_at still_limited
         limited_by =
             record {
-              so = rw (ne_eqb _ _ stands, ← eb.0, ← en.0, lt-ltb (begins + no_duty_for) now late, eq-eqb _ _ quiet) (sym (and-true (leb now (begins + period_lasts))));
+              so = rw (ne_eqb _ _ stands, ← eb, ← en, lt-ltb (begins + no_duty_for) now late, eq-eqb _ _ quiet) (sym (and-true (leb now (begins + period_lasts))));
             }
 
 -- ---- an order in a period
@@ -98,15 +101,21 @@ module _ (size firm : ℕ) where
   unfolding duty_as
   owed_least l = record { so = rw (lt-leb _ _ l) }
 
-module _ (quotes statuses periods : List ℕ) (exchanges home : ℕ) (sizes : List ℕ) (time : ℕ) (order : Order) (r : ℕ) (er : NoDutyIs quotes statuses exchanges home order r) where
-  reason_is : (h : Header) (past : History) → Heads h exchanges home sizes → Quoted past quotes → Statuses past statuses → r ≡ no_duty h past (as_order order)
+never_0 : (reason : Reason) → (reason_number reason == 0) ≡ false
+never_0 AbsentOrWorse = refl
+never_0 NotBest = refl
+never_0 NonFirm = refl
+never_0 TooSoon = refl
+
+module _ (quotes statuses periods : List ℕ) (exchanges home : ℕ) (sizes : List ℕ) (time : ℕ) (order : Order) (r : Option Reason) (er : NoDutyIs quotes statuses exchanges home order r) where
+  reason_is : (h : Header) (past : History) → Heads h exchanges home sizes → Quoted past quotes → Statuses past statuses → reason_as r ≡ no_duty h past (as_order order)
   reason_is h past hd held hs = er.so h past hd.exchanges hd.home held hs
 
-  pub received_none : (r ≡ 0 → ⊥) → InPeriod quotes statuses periods exchanges home sizes time order (NoDuty r)
+  pub received_none : (reason : Reason) → r ≡ Some reason → InPeriod quotes statuses periods exchanges home sizes time order (NoDuty reason)
   unfolding order_in duty_as
-  received_none ne = record { so = λ h past hd held hs. rw (← reason_is h past hd held hs, ne_eqb _ _ ne) }
+  received_none reason e = record { so = λ h past hd held hs. rw (← reason_is h past hd held hs, e, never_0 reason) }
 
-  module _ (z : r ≡ 0) (f : ℕ) (ef : FirmIs exchanges home sizes order f) where
+  module _ (z : r ≡ None) (f : ℕ) (ef : FirmIs exchanges home sizes order f) where
     -- judged as a first one
     first_owed : ((h : Header) (past : History) → Heads h exchanges home sizes → Quoted past quotes → Statuses past statuses
         → order_in h past (period_at periods (order.other - 1)) time (as_order order) ≡ first_order h past (as_order order)) → (d : Duty) → OwedIs order.size f d
@@ -115,7 +124,7 @@ module _ (quotes statuses periods : List ℕ) (exchanges home : ℕ) (sizes : Li
     first_owed first d owed =
         record {
           so = λ h past hd held hs.
-              owed.so ∙ rw (first h past hd held hs) (rw (← reason_is h past hd held hs, eq-eqb _ _ z, ← ef.so h hd));
+              owed.so ∙ rw (first h past hd held hs) (rw (← reason_is h past hd held hs, z, ← ef.so h hd));
         }
 
     module _ (other : order.kind ≡ 2 → ⊥) where
@@ -131,10 +140,10 @@ module _ (quotes statuses periods : List ℕ) (exchanges home : ℕ) (sizes : Li
       soon_is : (h : Header) (past : History) → Heads h exchanges home sizes → Quoted past quotes → b ≡ too_soon h past (period_at periods (order.other - 1)) time
       soon_is h past hd held = eb.so h past hd.exchanges hd.home held
 
-      pub principal_soon : b ≡ true → InPeriod quotes statuses periods exchanges home sizes time order (NoDuty 4)
+      pub principal_soon : b ≡ true → InPeriod quotes statuses periods exchanges home sizes time order (NoDuty TooSoon)
       unfolding order_in duty_as as_order
       principal_soon y =
-          record { so = λ h past hd held hs. rw (← reason_is h past hd held hs, eq-eqb _ _ z, eq-eqb _ _ k, ← soon_is h past hd held, y) }
+          record { so = λ h past hd held hs. rw (← reason_is h past hd held hs, z, eq-eqb _ _ k, ← soon_is h past hd held, y) }
 
       module _ (late : b ≡ false) (c : Bool) (ec : LimitedIs periods order.other time c) where
         -- of a principal order the firm size is home's principal size
@@ -147,7 +156,7 @@ module _ (quotes statuses periods : List ℕ) (exchanges home : ℕ) (sizes : Li
         principal_limited y m em =
             record {
               so = λ h past hd held hs.
-                  rw (← reason_is h past hd held hs, eq-eqb _ _ z, eq-eqb _ _ k, ← soon_is h past hd held, late, ← ec.so, y, em, principal_firm h hd);
+                  rw (← reason_is h past hd held hs, z, eq-eqb _ _ k, ← soon_is h past hd held, late, ← ec.so, y, em, principal_firm h hd);
             }
 
         module _ (no : c ≡ false) where
@@ -164,7 +173,7 @@ module _ (quotes statuses periods : List ℕ) (exchanges home : ℕ) (sizes : Li
 pub sender_to_eight : (exchanges home from : ℕ) → Headed exchanges home → from ≤ exchanges → from ≤ most_exchanges
 sender_to_eight exchanges home from hd to = omega (arith, hd.few)
 
-pub series_known : (periods : List ℕ) (from series : ℕ) → Tidy periods → 1 ≤ from → from ≤ most_exchanges → (series ≡ period_word periods (from - 1) 2) × (series < 4294967296) → series < many_series
-series_known periods from series tidy one eight es = omega (arith, es.0, tidy.series_low (from - 1) (omega arith))
+pub series_known : (periods : List ℕ) (from series : ℕ) → Tidy periods → 1 ≤ from → from ≤ most_exchanges → series ≡ period_word periods (from - 1) 2 → series < many_series
+series_known periods from series tidy one eight es = omega (arith, es, tidy.series_low (from - 1) (omega arith))
 
 pub ruleset period_laws = (best_there_lem, soon_none, soon_late, soon_quiet, soon_requoted, limited_none, limited_requoted, limited_early, limited_by, owed_whole, owed_least, received_none, linked_owed, principal_soon, principal_limited, principal_owed, sender_to_eight, series_known, home_within)

@@ -1,12 +1,12 @@
 -- The table of periods beside the history: a home quote is marked in it, a whole execution begins a row anew, any other record leaves it.
 use mathlib.Core.Path.{◌≡◌, refl, sym, ap, ◌∙◌}
-use mathlib.Core.Bool.{Bool, true, false, not, ◌&&◌, and-false, and-true, or-false, or-true}
+use mathlib.Core.Bool.{Bool, true, false, not, ◌&&◌, and-false, or-false, or-true}
 use mathlib.Core.List.{List, [], ◌∷◌}
 use Prim.Native.Nat.{ℕ, ◌+◌, ◌-◌, ◌*◌, ◌<◌, ◌≤◌}
 use native.Mathlib.Omega.{arith}
 use lib.ListN.{get_or, length, set, length-set, replicate, length-replicate, get_or-replicate}
 use lib.Seq.{get_or-set_same, get_or-set_other}
-use borrow.Author.Tests.{eq-eqb, ne_eqb, eqb-true, eqb-false, not-true, not-false}
+use borrow.Author.Tests.{eq-eqb, ne_eqb, eqb-true, eqb-false}
 use Rattle.std.specs.Prelude.{◌==◌}
 use Rattle.rules.specs.Limits.{most_exchanges}
 use Rattle.rules.specs.Header.{Header}
@@ -22,7 +22,6 @@ use Rattle.quotes.specs.Tables.{many_series, Quoted, Statuses}
 use Rattle.orders.specs.Orders.{Headed, Heads, as_order, OrderIs, shown_at, duty_as, ShownIs}
 use Rattle.orders.specs.declared.Order.{Order}
 use Rattle.orders.specs.declared.Duty.{Duty}
-use Rattle.orders.specs.declared.Duty.TheVariants.{NoDuty, Whole, AtLeast}
 use Rattle.orders.proofs.OrderVerdicts.{order_is, order_from, order_to, order_series, home_within}
 use Rattle.periods.specs.Periods.{period_words, period_word, period_at, Periods, Tidy, InPeriod, initial_of, ReceivedIs, shown_by, marked_by, Marked, Marking, Requoted}
 
@@ -183,19 +182,6 @@ pub ruleset mark_laws = (shown_by_buy, shown_by_sell, other_series, same_price, 
 
 -- ---- a received order
 
-module _ (type : ℕ) (d : Duty) (number : ℕ) where
-  pub none_begins_none : d ≡ NoDuty number → false ≡ initial_of type d
-  unfolding initial_of duty_as
-  none_begins_none e = rw (e, and-false (type == principal_order))
-
-  pub whole_begins : d ≡ Whole number → (type == principal_order) ≡ initial_of type d
-  unfolding initial_of duty_as
-  whole_begins e = rw (e, and-true (type == principal_order))
-
-  pub least_begins_none : d ≡ AtLeast number → false ≡ initial_of type d
-  unfolding initial_of duty_as
-  least_begins_none e = rw (e, and-false (type == principal_order))
-
 module _ (exchanges home : ℕ) (r : Rec) (ok : RecOk exchanges home r) (k : r.kind ≡ received_kind) (order : Order) (is : OrderIs r order) where
   pub received_from : 1 ≤ order.other
   received_from = order_from exchanges home r (ok.received k) order is
@@ -262,15 +248,15 @@ module _ (quotes statuses periods : List ℕ) (exchanges home : ℕ) (sizes : Li
         }
 
   module _ (b : Bool) (eb : b ≡ initial_of order.kind d) where
-    pub period_kept : not b ≡ true → ReceivedIs quotes statuses periods exchanges home sizes r periods d
+    pub period_kept : b ≡ false → ReceivedIs quotes statuses periods exchanges home sizes r periods d
     period_kept z =
         record {
           tidy = tidy;
           so = answer_is;
-          kept = λ h e past heads reads held hs stands. none_begins h e past heads reads held hs stands (rw (← eb, not-true b z));
+          kept = λ h e past heads reads held hs stands. none_begins h e past heads reads held hs stands (sym eb ∙ z);
         }
 
-    module _ (z : not b ≡ false) (price : ℕ) (shown : ShownIs quotes home order.series order.side price) (periods2 : List ℕ)
+    module _ (z : b ≡ true) (price : ℕ) (shown : ShownIs quotes home order.series order.side price) (periods2 : List ℕ)
         (p : Put periods periods2 (1 ∷ r.time ∷ get_or r.row 2 0 ∷ get_or r.row 3 0 ∷ price ∷ 0 ∷ 0 ∷ 0 ∷ []) (order.other - 1) 8) where
       begun_here : (h : Header) (e : Event) (past : History) → Heads h exchanges home sizes → Reads e r → Quoted past quotes → period_at periods2 (order.other - 1) ≡ begun (executed h past e)
       unfolding period_at shown_at
@@ -284,7 +270,7 @@ module _ (quotes statuses periods : List ℕ) (exchanges home : ℕ) (sizes : Li
         unfolding period_of
         begun_row =
             let begun_by : executes_whole h past (period_of h order.other past) order.other e ≡ true =
-            begins h e past heads reads held hs stands order.other ∙ rw (eq-eqb order.other order.other refl, ← eb, not-false b z) in
+            begins h e past heads reads held hs stands order.other ∙ rw (eq-eqb order.other order.other refl, ← eb, z) in
             rw begun_by (begun_here h e past heads reads held)
 
         -- another's
@@ -318,4 +304,4 @@ module _ (quotes statuses periods : List ℕ) (exchanges home : ℕ) (sizes : Li
             kept = begun_kept;
           }
 
-pub ruleset keep_laws = (none_begins_none, whole_begins, least_begins_none, received_from, received_to, received_series, received_row, period_kept, period_begun, home_within)
+pub ruleset keep_laws = (received_from, received_to, received_series, received_row, period_kept, period_begun, home_within)

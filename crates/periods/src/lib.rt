@@ -11,7 +11,7 @@ ghost use Rattle.orders.specs.Orders.{Headed};
 ghost use Rattle.periods.specs.Periods.{period_words, Tidy, BestThereIs, SoonIs, LimitedIs, OwedIs, initial_of, shown_by, Marked, Requoted, InPeriod, ReceivedIs};
 
 use limits::{Exchanges, FirmSize};
-use orders::{Duty, Order};
+use orders::{Duty, Order, Reason};
 use quotes::{Quote, Quotes, Statuses};
 use rows::{Rec, Type, Way};
 
@@ -51,6 +51,7 @@ impl Period {
 }
 
 // "a price stands there now that is the best"
+#[tactic(auto, using(crate::proofs::Judging::period_laws))]
 fn best_there(
     quotes: &[u32; Quotes::WORDS],
     exchanges: usize,
@@ -67,6 +68,7 @@ fn best_there(
 
 // "further principal orders from the same sender .. have no duty for 15 seconds"; "The exception: a later home quote .., and a price
 // stands there now that is the best"
+#[tactic(auto, using(crate::proofs::Judging::period_laws))]
 fn too_soon(
     periods: &[u32; Period::WORDS],
     quotes: &[u32; Quotes::WORDS],
@@ -80,50 +82,45 @@ fn too_soon(
     ensures { SoonIs periods.now quotes.now exchanges home from time result }
 {
     let at = (from - 1) * Period::ROW;
-    if periods[at + Period::BEGUN] == 0 {
+    if periods[at + Period::BEGUN] == 0
+        || u64::from(periods[at + Period::TIME]) + Period::NO_DUTY_FOR < u64::from(time)
+    {
         return false;
     }
-    if rows::wide(periods[at + Period::TIME]) + Period::NO_DUTY_FOR < rows::wide(time) {
-        return false;
-    }
-    if periods[at + Period::REQUOTED] == 0 {
-        return true;
-    }
-    let series = rows::index(periods[at + Period::SERIES]);
-    !best_there(quotes, exchanges, home, series, periods[at + Period::SIDE])
+    let series = periods[at + Period::SERIES] as usize;
+    periods[at + Period::REQUOTED] == 0
+        || !best_there(quotes, exchanges, home, series, periods[at + Period::SIDE])
 }
 
 // "After the 15 seconds, up to and including 60,000 ms and only while no such later quote has come, best or not"
+#[tactic(auto, using(crate::proofs::Judging::period_laws))]
 fn still_limited(periods: &[u32; Period::WORDS], from: usize, time: u32) -> bool
     requires { (1 ≤ from) × (from ≤ most_exchanges) }
     ensures { LimitedIs periods.now from time result }
 {
     let at = (from - 1) * Period::ROW;
-    if periods[at + Period::BEGUN] == 0 {
+    if periods[at + Period::BEGUN] == 0 || periods[at + Period::REQUOTED] != 0 {
         return false;
     }
-    if periods[at + Period::REQUOTED] != 0 {
-        return false;
-    }
-    let begun = rows::wide(periods[at + Period::TIME]);
-    let now = rows::wide(time);
-    if now <= begun + Period::NO_DUTY_FOR {
-        return false;
-    }
-    now <= begun + Period::LASTS
+    let begun = u64::from(periods[at + Period::TIME]);
+    let now = u64::from(time);
+    begun + Period::NO_DUTY_FOR < now && now <= begun + Period::LASTS
 }
 
 // "Otherwise the whole order if not above the firm size, else at least the firm size."
+#[tactic(auto, using(crate::proofs::Judging::period_laws))]
 fn owed(size: u32, firm: u32) -> Duty
     ensures { OwedIs size firm result }
 {
     if size <= firm {
-        return Duty::Whole(size);
+        Duty::Whole(size)
+    } else {
+        Duty::AtLeast(firm)
     }
-    Duty::AtLeast(firm)
 }
 
 // "Reason 4 and this answer are judged after 1, 2 and 3."; "P/A orders stay as they are."
+#[tactic(auto, using(crate::proofs::Judging::period_laws))]
 fn order_in(
     quotes: &[u32; Quotes::WORDS],
     statuses: &[u32; Statuses::WORDS],
@@ -138,8 +135,7 @@ fn order_in(
     requires tidy { Tidy periods.now }
     ensures { InPeriod quotes.now statuses.now periods.now exchanges home sizes.now time order result }
 {
-    let reason = orders::no_duty(quotes, statuses, exchanges, home, order);
-    if reason != 0 {
+    if let Some(reason) = orders::no_duty(quotes, statuses, exchanges, home, order) {
         return Duty::NoDuty(reason);
     }
     let firm = orders::firm_size(exchanges, home, sizes, order);
@@ -147,27 +143,25 @@ fn order_in(
         return owed(order.size, firm);
     }
     if too_soon(periods, quotes, exchanges, home, order.other, time) {
-        return Duty::NoDuty(Duty::TOO_SOON);
+        return Duty::NoDuty(Reason::TooSoon);
     }
     if still_limited(periods, order.other, time) {
-        return Duty::AtLeast(rows::lesser(order.size, firm));
+        return Duty::AtLeast(order.size.min(firm));
     }
     owed(order.size, firm)
 }
 
 // "a principal order that we had to execute whole (the initial execution)". No order but one judged as a first one is answered whole.
+#[tactic(auto, unfolding(crate::specs::Periods::initial_of, orders::specs::Orders::duty_as))]
 fn is_initial(kind: u32, duty: Duty) -> bool
     ensures { result ≡ initial_of kind duty }
 {
-    match duty {
-        Duty::NoDuty(_) => false,
-        Duty::Whole(_) => kind == Type::PRINCIPAL,
-        Duty::AtLeast(_) => false,
-    }
+    kind == Type::PRINCIPAL && matches!(duty, Duty::Whole(_))
 }
 
 // The verdict, and the period that begins with it: "A later whole execution of an order judged as a first one starts a new period in
 // the old one's place."
+#[tactic(auto, using(crate::proofs::Keeping::keep_laws))]
 pub fn received_order(
     quotes: &[u32; Quotes::WORDS],
     statuses: &[u32; Statuses::WORDS],
@@ -185,53 +179,50 @@ pub fn received_order(
     let duty = order_in(
         quotes, statuses, periods, exchanges, home, sizes, r.time, order,
     );
-    if !is_initial(order.kind, duty) {
-        return duty;
+    if is_initial(order.kind, duty) {
+        let price = orders::shown_price(quotes, home, order.series, order.side);
+        rows::put_row(
+            periods,
+            order.other - 1,
+            [1, r.time, r.row[2], r.row[3], price, 0, 0, 0],
+        );
     }
-    let row = r.row;
-    let price = orders::shown_price(quotes, home, order.series, order.side);
-    rows::put_row(
-        periods,
-        order.other - 1,
-        [1, r.time, row[2], row[3], price, 0, 0, 0],
-    );
     duty
 }
 
 // What a quote shows to an order of this side.
+#[tactic(auto, using(crate::proofs::Keeping::mark_laws))]
 fn shown_by(row: [u32; 8], side: u32) -> u32
     ensures { result ≡ shown_by row side }
 {
     if side == Way::BUY {
-        return row[Quote::OFFER];
+        row[Quote::OFFER]
+    } else {
+        row[Quote::BID]
     }
-    row[Quote::BID]
 }
 
 // "a later home quote gave another price, or none, on the side of the initial execution in its series"
+#[tactic(auto, using(crate::proofs::Keeping::mark_laws))]
 fn mark(periods: &mut [u32; Period::WORDS], y: usize, row: [u32; 8])
     requires { (y < most_exchanges) × (length periods.old ≡ period_words) }
     ensures { Marked periods.old y row periods.new }
 {
     let at = y * Period::ROW;
-    if periods[at + Period::SERIES] != row[1] {
-        return;
+    if periods[at + Period::SERIES] == row[1]
+        && shown_by(row, periods[at + Period::SIDE]) != periods[at + Period::PRICE]
+    {
+        periods[at + Period::REQUOTED] = 1;
     }
-    if shown_by(row, periods[at + Period::SIDE]) == periods[at + Period::PRICE] {
-        return;
-    }
-    periods[at + Period::REQUOTED] = 1;
 }
 
 // A home quote, in every period that it is a later quote of.
+#[tactic(auto, using(crate::proofs::Keeping::mark_laws))]
 pub fn keep_requotes(periods: &mut [u32; Period::WORDS], r: Rec)
     requires { Tidy periods.old }
     ensures { Requoted r periods.old periods.new }
 {
-    let row = r.row;
-    let mut y: usize = 0;
-    while y < Period::ROWS {
-        mark(periods, y, row);
-        y += 1;
+    for y in 0..Period::ROWS {
+        mark(periods, y, r.row);
     }
 }

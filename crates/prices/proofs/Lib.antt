@@ -1,1 +1,2 @@
 pub mod BestPrices
+pub mod Tests

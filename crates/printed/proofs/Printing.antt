@@ -7,6 +7,7 @@ use mir.Val.{Fits}
 use mir.Syntax.{w64}
 use lib.ListN.{get_or, length, length-append}
 use borrow.Author.Tests.{eq-eqb, ne_eqb}
+use Rattle.std.specs.Prelude.{Result, Ok, Err}
 use Rattle.rules.specs.Basics.{below}
 use Rattle.rules.specs.Journal.{Journal, DayRecords, journal_of}
 use Rattle.rules.specs.Due.{lines}
@@ -15,8 +16,8 @@ use Rattle.rules.specs.OwnSheet.{SheetLine, own_fill, own_line, own_lines}
 use Rattle.rules.specs.PrintedDay.{printed_line, listed, first_line, day_text}
 use Rattle.rules.proofs.Below.{as_many_below, at_below, beyond_below, same_below}
 use Rattle.text.specs.Lent.{Wrote, Takes, Writes}
-use Rattle.text.specs.declared.Written.{Written}
-use Rattle.text.specs.declared.Written.TheVariants.{To, Refused}
+use Rattle.rows.specs.declared.Refusal.{Refusal}
+use Rattle.rows.specs.declared.Refusal.TheVariants.{OutputTooShort}
 use Rattle.text.proofs.Lent.{wrote_length, wrote_none, wrote_then, writes_short, writes_all}
 use Rattle.claims.specs.Lines.{line_in, lines_from}
 use Rattle.claims.specs.Books.{Books, OwnFilled}
@@ -38,10 +39,10 @@ module _ (claims fills : List ℕ) (lines event line : ℕ) where
   order_known h rest e = record { says = rw (at_below (table_line claims fills) _ lines line h, e) }
 
 module _ (own : List SheetLine) (list : List ℕ) (i : ℕ) where
-  pub row_order : letter_at list i ≡ order_letter → (line : ℕ) → (line ≡ word_at list i 2) × (line < 4294967296) → (r : Shown) → OrderShown own (word_at list i 0) line r
+  pub row_order : letter_at list i ≡ order_letter → (line : ℕ) → line ≡ word_at list i 2 → (r : Shown) → OrderShown own (word_at list i 0) line r
       → RowShown own list i r
   unfolding row_text
-  row_order is line e r o = record { says = rw (eq-eqb _ _ is, ← e.0) o.says }
+  row_order is line e r o = record { says = rw (eq-eqb _ _ is, ← e) o.says }
 
   pub row_plain : (letter_at list i ≡ order_letter → ⊥)
       → RowShown own list i (record { event = word_at list i 0; what = letter_at list i; a = word_at list i 2; b = word_at list i 3; c = word_at list i 4 })
@@ -149,7 +150,7 @@ module _ (list : List ℕ) (n : ℕ) (claims fills : List ℕ) (lines : ℕ) (s 
       ap (λ t. first_line ++ t)
       (listing.so (sheet_from claims fills lines) ∙ ap (λ l. flat_map printed_line (listed d.header l d.records)) (sheet_is (journal_of d) trades claims traded lines fills books own))
 
-  written_prints : (r : Written) (after : List ℕ) → Writes s whole r after → Prints list n claims fills lines s r after
+  written_prints : (r : Result ℕ Refusal) (after : List ℕ) → Writes s whole r after → Prints list n claims fills lines s r after
   written_prints r after w =
       record {
         so = λ d trades traded books own listing.
@@ -160,8 +161,8 @@ module _ (list : List ℕ) (n : ℕ) (claims fills : List ℕ) (lines : ℕ) (s 
     whole_width : first + rest ≡ length whole
     whole_width = rw length-append (omega (arith, a.exact, b.exact))
 
-    pub print_short : length s < first + rest → Prints list n claims fills lines s (Refused 9) s
-    print_short h = written_prints (Refused 9) s (writes_short s whole (first + rest) whole_width h)
+    pub print_short : length s < first + rest → Prints list n claims fills lines s (Err OutputTooShort) s
+    print_short h = written_prints (Err OutputTooShort) s (writes_short s whole (first + rest) whole_width h)
 
     module _ (h : first + rest ≤ length s) where
       pub print_first_room : 0 + length first_line ≤ length s
@@ -172,8 +173,8 @@ module _ (list : List ℕ) (n : ℕ) (claims fills : List ℕ) (lines : ℕ) (s 
         print_rows_room = omega (arith, a.exact, b.exact, w.place, wrote_length s 0 first_line d p w)
 
   pub print_all : (d : List ℕ) (p : ℕ) → Wrote s 0 first_line d p → (e : List ℕ) (q : ℕ) → Wrote d p (text_from (sheet_from claims fills lines) list n) e q
-      → Prints list n claims fills lines s (To q) e
-  print_all d p w e q v = written_prints (To q) e (writes_all s whole e q (wrote_then s 0 first_line d p _ e q w v))
+      → Prints list n claims fills lines s (Ok q) e
+  print_all d p w e q v = written_prints (Ok q) e (writes_all s whole e q (wrote_then s 0 first_line d p _ e q w v))
 
   pub print_length : (d : List ℕ) (p : ℕ) → Wrote s 0 first_line d p → (t e : List ℕ) (q : ℕ) → Wrote d p t e q → length e ≡ length s
   print_length d p w t e q v = wrote_length d p t e q v ∙ wrote_length s 0 first_line d p w

@@ -1,7 +1,7 @@
 // The day's list printed: its rows as text, each Satisfaction Order with what our own sheet says of it.
 #![tactic(auto)]
 
-ghost use Rattle.std.specs.Prelude.{◌≡◌, ◌+◌, ◌-◌, ◌*◌, ◌≤◌, length};
+ghost use Rattle.std.specs.Prelude.{◌≡◌, ◌+◌, ◌*◌, ◌≤◌, length};
 ghost use Rattle.rules.specs.Limits.{most_satisfaction_orders};
 ghost use Rattle.text.specs.Lent.{Wrote, Takes};
 ghost use Rattle.list.specs.Listing.{most_rows, text_from, list_words, most_text};
@@ -11,7 +11,7 @@ use claims::Line;
 use counted::SatisfactionOrder;
 use list::Row;
 use rows::Refusal;
-use text::{What, Written};
+use text::What;
 
 // What a line says.
 #[derive(Clone, Copy)]
@@ -23,16 +23,8 @@ struct Shown {
     c: u32,
 }
 
-fn left(size: u32, filled: u32) -> u32
-    ensures { result ≡ size - filled }
-{
-    if size < filled {
-        return 0;
-    }
-    size - filled
-}
-
 // What our own sheet says on this line.
+#[tactic(auto, using(crate::proofs::Printing::shown_laws))]
 fn order_shown(
     event: u32,
     line: usize,
@@ -53,7 +45,7 @@ fn order_shown(
         };
     }
     let filled = fills[line];
-    let cancelled = left(claims[line * 8 + Line::SIZE], filled);
+    let cancelled = claims[line * 8 + Line::SIZE].saturating_sub(filled);
     Shown {
         event,
         what: What::SATISFACTION,
@@ -63,6 +55,7 @@ fn order_shown(
     }
 }
 
+#[tactic(auto, using(crate::proofs::Printing::shown_laws))]
 fn row_shown(
     list: &[u32],
     i: usize,
@@ -78,7 +71,7 @@ fn row_shown(
     let what = (list[at + Row::WHAT] % 256) as u8;
     let a = list[at + Row::A];
     if what == What::SATISFACTION {
-        return order_shown(event, rows::index(a), claims, fills, lines);
+        return order_shown(event, a as usize, claims, fills, lines);
     }
     Shown {
         event,
@@ -100,11 +93,9 @@ fn rows_width(
     ensures { Takes (text_from (sheet_from claims.now fills.now lines) list.now listed) most_text result }
 {
     let mut width: usize = 0;
-    let mut i: usize = 0;
-    while i < listed {
-        let s = row_shown(list, i, claims, fills, lines);
-        width += text::line_width(s.event, s.what, s.a, s.b, s.c);
-        i += 1;
+    for i in 0..listed {
+        let row = row_shown(list, i, claims, fills, lines);
+        width += text::line_width(row.event, row.what, row.a, row.b, row.c);
     }
     width
 }
@@ -123,11 +114,9 @@ fn put_rows(
     ensures { Wrote out.old at (text_from (sheet_from claims.now fills.now lines) list.now listed) out.new result }
 {
     let mut next = at;
-    let mut i: usize = 0;
-    while i < listed {
+    for i in 0..listed {
         let row = row_shown(list, i, claims, fills, lines);
         next = text::put_line(out, next, row.event, row.what, row.a, row.b, row.c);
-        i += 1;
     }
     next
 }
@@ -140,15 +129,15 @@ pub fn print(
     fills: &[u32; SatisfactionOrder::MOST],
     lines: usize,
     out: &mut [u8],
-) -> Written
+) -> Result<usize, Refusal>
     requires { (listed ≤ most_rows) × (length list.now ≡ list_words) × (lines ≤ most_satisfaction_orders) }
     ensures { Prints list.now listed claims.now fills.now lines out.old result out.new }
 {
     let first = text::first_line_width();
     let rest = rows_width(list, listed, claims, fills, lines);
     if out.len() < first + rest {
-        return Written::Refused(Refusal::OUTPUT_TOO_SHORT);
+        return Err(Refusal::OutputTooShort);
     }
     let next = text::put_first_line(out, 0);
-    Written::To(put_rows(list, listed, claims, fills, lines, out, next))
+    Ok(put_rows(list, listed, claims, fills, lines, out, next))
 }

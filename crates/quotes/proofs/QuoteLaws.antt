@@ -99,7 +99,7 @@ record_placed exchanges home r ok few =
     }
 
 module _ (r : Rec) where
-  pub quote_within : FitsQuotes r → r.kind ≡ quote_kind → (exchange series : ℕ) → (exchange ≡ word r 0) × (exchange < 4294967296) → (series ≡ word r 1) × (series < 4294967296) → Within exchange series
+  pub quote_within : FitsQuotes r → r.kind ≡ quote_kind → (exchange series : ℕ) → exchange ≡ word r 0 → series ≡ word r 1 → Within exchange series
   quote_within p k exchange series ex es =
       let g = p.quote k in
       record { from_one = omega (arith, g.exchange.from_one); to_eight = omega (arith, g.exchange.to_n); low = omega (arith, g.series) }
@@ -108,11 +108,11 @@ module _ (r : Rec) where
   quotes_kept quotes ne = record { so = λ e past reads held. quotes_alone e past quotes (λ z. ne (sym reads.kind ∙ z)) held }
 
   pub quotes_taken : (quotes quotes2 : List ℕ) → FitsQuotes r → r.kind ≡ quote_kind → (row : ℕ) → Put quotes quotes2 r.row row 8 → (exchange series : ℕ) → RowIs exchange series row
-      → (exchange ≡ word r 0) × (exchange < 4294967296) → (series ≡ word r 1) × (series < 4294967296) → QuotesStep r quotes quotes2
+      → exchange ≡ word r 0 → series ≡ word r 1 → QuotesStep r quotes quotes2
   quotes_taken quotes quotes2 p k row put exchange series en ex es =
       record {
         so = λ e past reads held.
-            quotes_put r quotes quotes2 exchange series (quote_within p k exchange series ex es) ex.0 es.0 (rw en.is at put) e past (reads.kind ∙ k) reads held;
+            quotes_put r quotes quotes2 exchange series (quote_within p k exchange series ex es) ex es (rw en.is at put) e past (reads.kind ∙ k) reads held;
       }
 
 -- "All start firm, without quotes."

@@ -41,7 +41,7 @@ module _ (r : Rec) where
   pub statuses_kept : (statuses : List ℕ) → (r.kind ≡ status_kind → ⊥) → StatusesStep r statuses statuses
   statuses_kept statuses ne = record { so = λ e past reads held. statuses_alone e past statuses (λ z. ne (sym reads.kind ∙ z)) held }
 
-  module _ (p : FitsQuotes r) (k : r.kind ≡ status_kind) (exchange : ℕ) (ex : (exchange ≡ word r 0) × (exchange < 4294967296)) where
+  module _ (p : FitsQuotes r) (k : r.kind ≡ status_kind) (exchange : ℕ) (ex : exchange ≡ word r 0) where
     pub status_from_one : 1 ≤ exchange
     status_from_one = let g = p.status k in omega (arith, g.exchange.from_one)
 
@@ -53,7 +53,7 @@ module _ (r : Rec) where
         let g = p.status k in
         record {
           so = λ e past reads held.
-              statuses_put statuses exchange (word r 1) e past (reads.kind ∙ k) (ex.0 ∙ reads.fields 0) (reads.fields 1) status_from_one (omega (arith, g.exchange.to_n)) held;
+              statuses_put statuses exchange (word r 1) e past (reads.kind ∙ k) (ex ∙ reads.fields 0) (reads.fields 1) status_from_one (omega (arith, g.exchange.to_n)) held;
         }
 
 -- "All start firm, without quotes."

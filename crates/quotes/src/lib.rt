@@ -57,18 +57,19 @@ pub fn keep_quote(quotes: &mut [u32; Quotes::WORDS], r: Rec)
 {
     if r.kind == Rec::QUOTE {
         let row = r.row;
-        let at = row_of(rows::index(row[0]), rows::index(row[1]));
+        let at = row_of(row[0] as usize, row[1] as usize);
         rows::put_row(quotes, at, row);
     }
 }
 
 // A status stands until the exchange's next; a record of any other kind changes none.
+#[tactic(auto, using(crate::proofs::StatusLaws::status_laws))]
 pub fn keep_status(statuses: &mut [u32; Statuses::WORDS], r: Rec)
     requires { FitsQuotes r }
     ensures { StatusesStep r statuses.old statuses.new }
 {
     if r.kind == Rec::STATUS {
         let row = r.row;
-        statuses[rows::index(row[0]) - 1] = row[1];
+        statuses[row[0] as usize - 1] = row[1];
     }
 }

@@ -6,7 +6,8 @@ use Prim.Native.Nat.{ℕ, ◌+◌, ◌-◌, ◌≤◌, ◌<◌, min}
 use native.Mathlib.Omega.{arith}
 use lib.Dec.{eqb, leb, ltb}
 use borrow.Author.Tests.{eq-eqb, ne_eqb, le-leb, lt-leb, leb-true, leb-false, not-true}
-use Rattle.std.specs.Prelude.{if◌then◌else◌, ◌==◌}
+use Rattle.std.specs.Prelude.{if◌then◌else◌, ◌==◌, Option, Some, None}
+use Rattle.std.specs.Option.{option_or}
 use Rattle.rules.specs.Basics.{Row, first_of, all}
 use Rattle.rules.specs.Limits.{closing_minutes}
 use Rattle.rules.specs.Record.{not_firm, rotation, complex_trade}
@@ -16,11 +17,13 @@ use Rattle.rules.specs.Due.{most_at_the_close, limited, least_of}
 use Rattle.rules.proofs.Tests.{by_test, and_left, and_right}
 use Rattle.rules.proofs.Naming.{named}
 use Rattle.reasons.specs.declared.Facts.{Facts}
-use Rattle.reasons.specs.Reasons.{later_than, minutes_at, allowed_at, in_time, required_of, by_trade, by_time, by_price, trade_reason, late_reason, again_reason, time_reason, price_reason, reason_of, claim_of}
+use Rattle.reasons.specs.declared.Reason.{Reason}
+use Rattle.reasons.specs.declared.Reason.TheVariants.{NotTradedThrough, HadSent, SenderNonFirm, HomeNonFirm, SenderInRotation, HomeInRotation, Complex, Late, LateAgain, LateWithInitiator, InitiatorNamed, PricedAsBlock, NotThePriceRequired, NoCustomers}
+use Rattle.reasons.specs.Reasons.{number_of, stored_as, later_than, minutes_at, allowed_at, in_time, required_of, by_trade, by_time, by_price, trade_reason, late_reason, again_reason, time_reason, price_reason, reason_of, claim_of}
 
-pub later_by_words : (report allowed now a b : ℕ) → (a ≡ report) × (a < 4294967296) → (b ≡ now) × (b < 4294967296) → ltb (a + allowed) b ≡ later_than report allowed now
+pub later_by_words : (report allowed now a b : ℕ) → a ≡ report → b ≡ now → ltb (a + allowed) b ≡ later_than report allowed now
 unfolding later_than
-later_by_words report allowed now a b ea eb = rw (ea.0, eb.0)
+later_by_words report allowed now a b ea eb = rw (ea, eb)
 
 -- "if the report is at or after close less 300,000"
 in_closing_minutes : (report close : ℕ) → leb close (report + closing_minutes) ≡ leb (close - closing_minutes) report
@@ -29,9 +32,9 @@ in_closing_minutes report close =
     (λ p. let h = leb-true close (report + closing_minutes) p in p ∙ sym (le-leb (close - closing_minutes) report (omega arith)))
     (λ p. let h = leb-false close (report + closing_minutes) p in p ∙ sym (lt-leb (close - closing_minutes) report (omega arith)))
 
-module _ (moment close a c : ℕ) (ea : (a ≡ moment) × (a < 4294967296)) (ec : (c ≡ close) × (c < 4294967296)) where
+module _ (moment close a c : ℕ) (ea : a ≡ moment) (ec : c ≡ close) where
   closing_test : leb (close - closing_minutes) moment ≡ leb c (a + closing_minutes)
-  closing_test = rw (ea.0, ec.0) (sym (in_closing_minutes moment close))
+  closing_test = rw (ea, ec) (sym (in_closing_minutes moment close))
 
   pub one_minute_from : c ≤ a + closing_minutes → one_minute ≡ minutes_at moment close
   unfolding minutes_at
@@ -157,19 +160,17 @@ module _ (initiator report close now allowed : ℕ) (ea : allowed ≡ allowed_at
   is_late : later_than report (allowed_at initiator report close) now ≡ late
   is_late = rw (← ea) (sym el)
 
-  module _ (b8 : Bool) (e8 : b8 ≡ (eqb initiator 0 && late)) where
-    pub reason_8 : b8 ≡ true → 8 ≡ late_reason initiator report close now
-    unfolding late_reason first_of
-    reason_8 q = rw (is_late, sym e8 ∙ q)
+  pub no_late_reason : late ≡ false → 0 ≡ late_reason initiator report close now
+  unfolding late_reason first_of
+  no_late_reason q = rw (is_late, q, and-false (eqb initiator 0), and-false (not (eqb initiator 0)))
 
-    module _ (p8 : b8 ≡ false) (b9 : Bool) (e9 : b9 ≡ (not (eqb initiator 0) && late)) where
-      pub reason_9 : b9 ≡ true → 9 ≡ late_reason initiator report close now
-      unfolding late_reason first_of
-      reason_9 q = rw (is_late, sym e8 ∙ p8, sym e9 ∙ q)
+  pub reason_8 : late ≡ true → initiator ≡ 0 → 8 ≡ late_reason initiator report close now
+  unfolding late_reason first_of
+  reason_8 q p = rw (is_late, q, eq-eqb initiator 0 p)
 
-      pub no_late_reason : b9 ≡ false → 0 ≡ late_reason initiator report close now
-      unfolding late_reason first_of
-      no_late_reason q = rw (is_late, sym e8 ∙ p8, sym e9 ∙ q)
+  pub reason_9 : late ≡ true → (initiator ≡ 0 → ⊥) → 9 ≡ late_reason initiator report close now
+  unfolding late_reason first_of
+  reason_9 q p = rw (is_late, q, ne_eqb initiator 0 p)
 
 -- "reason 15: later than 180,000 ms after the cancellation"
 module _ (cancelled now : ℕ) (late : Bool) (el : late ≡ later_than cancelled three_minutes now) where
@@ -261,4 +262,29 @@ module _ (k : Facts) where
       pub reason_by_price : l ≡ 0 → (c : ℕ) → c ≡ price_reason k.asked k.price k.block k.there k.customers → c ≡ reason_of k
       reason_by_price p c ec = rw (parts, ← et, ← el, eq-eqb t 0 z, eq-eqb l 0 p) ec
 
-pub ruleset whole_laws = (reason_by_trade, reason_by_time, reason_by_price)
+  some_number : (reason : Reason) → number_of reason ≡ 0 → ⊥
+  some_number NotTradedThrough z = omega arith
+  some_number HadSent z = omega arith
+  some_number SenderNonFirm z = omega arith
+  some_number HomeNonFirm z = omega arith
+  some_number SenderInRotation z = omega arith
+  some_number HomeInRotation z = omega arith
+  some_number Complex z = omega arith
+  some_number Late z = omega arith
+  some_number LateAgain z = omega arith
+  some_number LateWithInitiator z = omega arith
+  some_number InitiatorNamed z = omega arith
+  some_number PricedAsBlock z = omega arith
+  some_number NotThePriceRequired z = omega arith
+  some_number NoCustomers z = omega arith
+
+  pub first_told : (t l c : Option Reason)
+      → stored_as t ≡ trade_reason k.side k.excuser k.status k.home k.initiator k.complex
+      → stored_as l ≡ time_reason k.again k.initiator k.report k.close k.time
+      → stored_as c ≡ price_reason k.asked k.price k.block k.there k.customers
+      → stored_as (option_or (option_or t l) c) ≡ reason_of k
+  first_told (Some reason) l c et el ec = reason_by_trade (number_of reason) et (some_number reason)
+  first_told None (Some reason) c et el ec = reason_by_time 0 et refl (number_of reason) el (some_number reason)
+  first_told None None c et el ec = reason_by_price 0 et refl 0 el refl (stored_as c) ec
+
+pub ruleset whole_laws = (reason_by_trade, reason_by_time, reason_by_price, first_told)

@@ -1,5 +1,5 @@
 -- "Reasons on a Satisfaction Order, first that holds", over the numbers that its trade kept.
-use Rattle.std.specs.Prelude.{Bool, not, ◌&&◌, List, [], ◌∷◌, ◌++◌, ℕ, ◌+◌, ◌-◌, if◌then◌else◌, ◌==◌}
+use Rattle.std.specs.Prelude.{Bool, not, ◌&&◌, List, [], ◌∷◌, ◌++◌, ℕ, ◌+◌, ◌-◌, if◌then◌else◌, ◌==◌, Option, Some, None}
 use Rattle.rules.specs.Basics.{◌at_least◌, ◌more_than◌, Row, ◌when◌, ◌¦◌, first_of}
 use Rattle.rules.specs.Limits.{closing_minutes}
 use Rattle.rules.specs.Record.{not_firm, rotation, complex_trade}
@@ -8,6 +8,30 @@ use Rattle.rules.specs.Verdicts.{neither}
 use Rattle.rules.specs.Reasons.{three_minutes, one_minute}
 use Rattle.rules.specs.Due.{limited, least_of}
 use Rattle.reasons.specs.declared.Facts.{Facts}
+use Rattle.reasons.specs.declared.Reason.{Reason}
+use Rattle.reasons.specs.declared.Reason.TheVariants.{NotTradedThrough, HadSent, SenderNonFirm, HomeNonFirm, SenderInRotation, HomeInRotation, Complex, Late, LateAgain, LateWithInitiator, InitiatorNamed, PricedAsBlock, NotThePriceRequired, NoCustomers}
+
+-- a reason in memory, and the paper's number of it
+abbrev pub number_of : Reason → ℕ
+number_of NotTradedThrough = 10
+number_of HadSent = 2
+number_of SenderNonFirm = 3
+number_of HomeNonFirm = 4
+number_of SenderInRotation = 5
+number_of HomeInRotation = 6
+number_of Complex = 7
+number_of Late = 8
+number_of LateAgain = 15
+number_of LateWithInitiator = 9
+number_of InitiatorNamed = 14
+number_of PricedAsBlock = 11
+number_of NotThePriceRequired = 12
+number_of NoCustomers = 13
+
+-- "0 none of these"
+abbrev pub stored_as : Option Reason → ℕ
+stored_as None = 0
+stored_as (Some reason) = number_of reason
 
 -- "received later than the report plus" some time
 unfoldable pub later_than : ℕ → ℕ → ℕ → Bool

@@ -1,13 +1,14 @@
 -- Reading a sheet: three numbers to a line, line after line, and nothing after the last.
 use mathlib.Core.Path.{◌≡◌, refl, sym, ap, ◌∙◌}
 use mathlib.Core.List.{List, [], ◌∷◌, ◌++◌, append-nil, append_assoc}
-use Prim.Native.Nat.{ℕ, zero, suc, ◌+◌, ◌-◌, ◌*◌, ◌≤◌, ◌<◌}
+use Prim.Native.Nat.{ℕ, zero, suc, ◌+◌, ◌-◌, ◌≤◌, ◌<◌}
 use native.Mathlib.Nat.{sub-zero, zero-add}
 use native.Mathlib.Numerals.{add-one}
 use native.Mathlib.Omega.{arith}
-use lib.ListN.{length, get_or, set, drop, length-set, length-drop}
+use lib.ListN.{length, set, drop, length-set, length-drop}
 use lib.Seq.{get_or-set_same, get_or-set_other}
 use borrow.Author.Tests.{eq-eqb, ne_eqb}
+use Rattle.std.specs.Prelude.{Option, Some, None, ok_or, Result, Ok, Err}
 use Rattle.rules.specs.Basics.{Answer, refused, ok, ◌>>=◌, demand}
 use Rattle.rules.specs.Limits.{most_satisfaction_orders}
 use Rattle.rules.specs.Refusals.{not_three_each}
@@ -15,38 +16,49 @@ use Rattle.rules.specs.Number.{start_of}
 use Rattle.rules.specs.OwnSheet.{SheetLine}
 use Rattle.rules.specs.SheetCheck.{sheet_lines}
 use Rattle.number.specs.Reading.{field_at, spot_at}
-use Rattle.number.specs.declared.Field.{Field}
-use Rattle.number.specs.declared.Field.TheVariants.{Read as ReadTo, Cut as NoField}
 use Rattle.several.specs.Rows.{Many, all, cut, after, many_at}
 use Rattle.several.proofs.Reading.{numbers_at}
-use Rattle.said.specs.declared.Checked.TheVariants.{Accepted, Refused}
+use Rattle.rows.specs.declared.Refusal.TheVariants.{NotThreeEach}
 use Rattle.said.specs.declared.Reach.{Reach}
-use Rattle.said.specs.declared.Three.{Three}
-use Rattle.said.specs.declared.Three.TheVariants.{Read, Cut}
-use Rattle.said.specs.Said.{each, as_three, three_at, said_line, SheetRead, behind, SheetReading, LinesRead}
+use Rattle.said.specs.declared.Said.{Said}
+use Rattle.said.specs.Said.{each, as_three, three_at, nothing, as_line, said_line, SheetRead, behind, SheetReading, LinesRead}
 
 -- ---- one line
 
-module _ (sheet : List ℕ) (at : ℕ) (a : Field) (ea : a ≡ field_at sheet at) where
-  pub first_cut : a ≡ NoField → Cut at ≡ three_at sheet at
+read_is : (o : Option (ℕ × ℕ)) (at : ℕ) (x : ℕ × ℕ) → ok_or o at ≡ Ok x → o ≡ Some x
+read_is None at x e = cc
+read_is (Some y) at x e = cc
+
+cut_is : (o : Option (ℕ × ℕ)) (at place : ℕ) → ok_or o at ≡ Err place → (o ≡ None) × (place ≡ at)
+cut_is None at place e = (refl, cc)
+cut_is (Some y) at place e = cc
+
+module _ (sheet : List ℕ) (at : ℕ) (a : Option (ℕ × ℕ)) (ea : a ≡ field_at sheet at) (oa : Result (ℕ × ℕ) ℕ) (va : oa ≡ ok_or a at) where
+  pub first_cut : (place : ℕ) → oa ≡ Err place → Err place ≡ three_at sheet at
   unfolding three_at many_at
-  first_cut g = rw (← ea, g)
+  first_cut place g = let n = cut_is a at place (sym va ∙ g) in rw (← ea, n.0, n.1)
 
-  module _ (x after_reason : ℕ) (ga : a ≡ ReadTo x after_reason) (b : Field) (eb : b ≡ field_at sheet after_reason) where
-    pub second_cut : b ≡ NoField → Cut after_reason ≡ three_at sheet at
+  module _ (x after_reason : ℕ) (ga : oa ≡ Ok (x, after_reason)) (b : Option (ℕ × ℕ)) (eb : b ≡ field_at sheet after_reason)
+      (ob : Result (ℕ × ℕ) ℕ) (vb : ob ≡ ok_or b after_reason) where
+    has_reason : a ≡ Some (x, after_reason)
+    has_reason = read_is a at (x, after_reason) (sym va ∙ ga)
+
+    pub second_cut : (place : ℕ) → ob ≡ Err place → Err place ≡ three_at sheet at
     unfolding three_at many_at after
-    second_cut g = rw (← ea, ga, ← eb, g)
+    second_cut place g = let n = cut_is b after_reason place (sym vb ∙ g) in rw (← ea, has_reason, ← eb, n.0, n.1)
 
-    module _ (y after_filled : ℕ) (gb : b ≡ ReadTo y after_filled) (d : Field) (ed : d ≡ field_at sheet after_filled) where
-      pub third_cut : d ≡ NoField → Cut after_filled ≡ three_at sheet at
+    module _ (y after_filled : ℕ) (gb : ob ≡ Ok (y, after_filled)) (d : Option (ℕ × ℕ)) (ed : d ≡ field_at sheet after_filled)
+        (od : Result (ℕ × ℕ) ℕ) (vd : od ≡ ok_or d after_filled) where
+      has_filled : b ≡ Some (y, after_filled)
+      has_filled = read_is b after_reason (y, after_filled) (sym vb ∙ gb)
+
+      pub third_cut : (place : ℕ) → od ≡ Err place → Err place ≡ three_at sheet at
       unfolding three_at many_at after
-      third_cut g = rw (← ea, ga, ← eb, gb, ← ed, g)
+      third_cut place g = let n = cut_is d after_filled place (sym vd ∙ g) in rw (← ea, has_reason, ← eb, has_filled, ← ed, n.0, n.1)
 
-      pub three_read : (z next : ℕ) → d ≡ ReadTo z next → Read x y z next ≡ three_at sheet at
+      pub three_read : (z next : ℕ) → od ≡ Ok (z, next) → Ok (record { reason = x; filled = y; cancelled = z }, next) ≡ three_at sheet at
       unfolding three_at many_at after
-      three_read z next g = rw (← ea, ga, ← eb, gb, ← ed, g)
-
-pub ruleset line_read_laws = (first_cut, second_cut, third_cut, three_read)
+      three_read z next g = rw (← ea, has_reason, ← eb, has_filled, ← ed, read_is d after_filled (z, next) (sym vd ∙ g))
 
 -- ---- a list by its places
 
@@ -63,18 +75,18 @@ each_same f g i (suc k) h = rw (h i (omega arith), each_same f g (i + 1) k (λ x
 -- ---- the next line of a sheet
 
 -- what the definition does with a line that was read or not
-unfoldable after_line : ℕ → List ℕ → Three → Answer (List SheetLine)
-after_line k sheet (Cut place) = refused not_three_each place
-after_line k sheet (Read a b d next) = do
+unfoldable after_line : ℕ → List ℕ → Result (Said × ℕ) ℕ → Answer (List SheetLine)
+after_line k sheet (Err place) = refused not_three_each place
+after_line k sheet (Ok (line, next)) = do
   more ← sheet_lines k (spot_at 0 sheet next)
-  ok (record { reason = a; filled = b; cancelled = d } ∷ more)
+  ok (as_line line ∷ more)
 
 next_line : (k : ℕ) (sheet : List ℕ) (at : ℕ) (m : Many) → many_at 3 sheet at ≡ m → sheet_lines (suc k) (spot_at 0 sheet at) ≡ after_line k sheet (as_three m)
 unfolding sheet_lines after_line ◌>>=◌
 next_line k sheet at (all ns next) e = rw (numbers_at 0 sheet 3 at, e)
 next_line k sheet at (cut place) e = rw (numbers_at 0 sheet 3 at, e, zero-add place)
 
-line_at_lem : (k : ℕ) (sheet : List ℕ) (at : ℕ) (t : Three) → t ≡ three_at sheet at → sheet_lines (suc k) (spot_at 0 sheet at) ≡ after_line k sheet t
+line_at_lem : (k : ℕ) (sheet : List ℕ) (at : ℕ) (t : Result (Said × ℕ) ℕ) → t ≡ three_at sheet at → sheet_lines (suc k) (spot_at 0 sheet at) ≡ after_line k sheet t
 unfolding three_at
 line_at_lem k sheet at t e = next_line k sheet at (many_at 3 sheet at) refl ∙ ap (after_line k sheet) (sym e)
 
@@ -89,59 +101,35 @@ behind_more done l (ok more) = ap ok (sym (append_assoc done (l ∷ []) more))
 
 -- ---- a line put in memory
 
-module _ (said : List ℕ) (i a b d : ℕ) (long : length said ≡ most_satisfaction_orders * 3) (h : i < most_satisfaction_orders) where
-  abbrev put : List ℕ
-  put = set (set (set said (i * 3 + 0) a) (i * 3 + 1) b) (i * 3 + 2) d
-
-  put_long : length put ≡ most_satisfaction_orders * 3
+module _ (said : List Said) (i : ℕ) (line : Said) (long : length said ≡ most_satisfaction_orders) (h : i < most_satisfaction_orders) where
+  put_long : length (set said i line) ≡ most_satisfaction_orders
   put_long = simp length-set long
 
-  put_here : said_line put i ≡ record { reason = a; filled = b; cancelled = d }
-  put_here =
-      let l1 : length (set said (i * 3 + 0) a) ≡ most_satisfaction_orders * 3 = simp length-set long in
-      let l2 : length (set (set said (i * 3 + 0) a) (i * 3 + 1) b) ≡ most_satisfaction_orders * 3 = simp length-set long in
-      rw (
-        get_or-set_other (set (set said (i * 3 + 0) a) (i * 3 + 1) b) (i * 3 + 2) (i * 3 + 0) d 0 (λ z. omega arith),
-        get_or-set_other (set said (i * 3 + 0) a) (i * 3 + 1) (i * 3 + 0) b 0 (λ z. omega arith),
-        get_or-set_same said (i * 3 + 0) a 0 (omega arith),
-        get_or-set_other (set (set said (i * 3 + 0) a) (i * 3 + 1) b) (i * 3 + 2) (i * 3 + 1) d 0 (λ z. omega arith),
-        get_or-set_same (set said (i * 3 + 0) a) (i * 3 + 1) b 0 (omega arith),
-        get_or-set_same (set (set said (i * 3 + 0) a) (i * 3 + 1) b) (i * 3 + 2) d 0 (omega arith),
-      )
-
-  put_word : (w : ℕ) → w < i * 3 → get_or put w 0 ≡ get_or said w 0
-  put_word w lt =
-      get_or-set_other (set (set said (i * 3 + 0) a) (i * 3 + 1) b) (i * 3 + 2) w d 0 (λ z. omega arith)
-      ∙ get_or-set_other (set said (i * 3 + 0) a) (i * 3 + 1) w b 0 (λ z. omega arith)
-      ∙ get_or-set_other said (i * 3 + 0) w a 0 (λ z. omega arith)
-
-  put_before : (x : ℕ) → x < i → said_line put x ≡ said_line said x
-  put_before x lt = rw (put_word (x * 3 + 0) (omega arith), put_word (x * 3 + 1) (omega arith), put_word (x * 3 + 2) (omega arith))
-
-  put_lines : each (said_line put) 0 (i + 1) ≡ each (said_line said) 0 i ++ (record { reason = a; filled = b; cancelled = d } ∷ [])
+  put_lines : each (said_line (set said i line)) 0 (i + 1) ≡ each (said_line said) 0 i ++ (as_line line ∷ [])
   put_lines =
       rw (add-one i)
-      (each_more (said_line put) 0 i
-      ∙ ap (λ (x : ℕ). each (said_line put) 0 i ++ (said_line put x ∷ [])) (zero-add i)
-      ∙ ap (λ (l : List SheetLine). l ++ (said_line put i ∷ [])) (each_same (said_line put) (said_line said) 0 i (λ x lt. put_before x (omega arith)))
-      ∙ ap (λ (l : SheetLine). each (said_line said) 0 i ++ (l ∷ [])) put_here)
+      (each_more (said_line (set said i line)) 0 i
+      ∙ ap (λ (x : ℕ). each (said_line (set said i line)) 0 i ++ (said_line (set said i line) x ∷ [])) (zero-add i)
+      ∙ ap (λ (l : List SheetLine). l ++ (said_line (set said i line) i ∷ []))
+      (each_same (said_line (set said i line)) (said_line said) 0 i (λ x lt. ap as_line (get_or-set_other said i x line nothing (λ z. omega arith))))
+      ∙ ap (λ (l : Said). each (said_line said) 0 i ++ (as_line l ∷ [])) (get_or-set_same said i line nothing (omega arith)))
 
 -- ---- the sheet
 
 module _ (sheet : List ℕ) (lines : ℕ) where
-  pub nothing_read : (said : List ℕ) → length said ≡ most_satisfaction_orders * 3 → SheetReading sheet lines said 0 0
+  pub nothing_read : (said : List Said) → length said ≡ most_satisfaction_orders → SheetReading sheet lines said 0 0
   unfolding each
   nothing_read said l = record { rest = rw sub-zero (behind_none (sheet_lines lines (start_of sheet))); low = omega arith; long = l }
 
-  module _ (said : List ℕ) (at i : ℕ) (w : SheetReading sheet lines said at i) where
-    module _ (h : i < lines) (t : Three) (e : t ≡ three_at sheet at) where
+  module _ (said : List Said) (at i : ℕ) (w : SheetReading sheet lines said at i) where
+    module _ (h : i < lines) (t : Result (Said × ℕ) ℕ) (e : t ≡ three_at sheet at) where
       left : lines - i ≡ suc (lines - (i + 1))
       left = omega arith
 
       on : sheet_lines (lines - i) (spot_at 0 sheet at) ≡ after_line (lines - (i + 1)) sheet t
       on = rw left (line_at_lem (lines - (i + 1)) sheet at t e)
 
-      pub line_cut : (place : ℕ) → t ≡ Cut place → LinesRead sheet lines said (record { lines = i; place = place })
+      pub line_cut : (place : ℕ) → t ≡ Err place → LinesRead sheet lines said (record { lines = i; place = place })
       unfolding after_line
       line_cut place g =
           record {
@@ -154,17 +142,16 @@ module _ (sheet : List ℕ) (lines : ℕ) where
             low = omega arith;
           }
 
-      pub line_put : (a b d next : ℕ) → t ≡ Read a b d next → lines ≤ most_satisfaction_orders
-          → SheetReading sheet lines (set (set (set said (i * 3 + 0) a) (i * 3 + 1) b) (i * 3 + 2) d) next (i + 1)
+      pub line_put : (line : Said) (next : ℕ) → t ≡ Ok (line, next) → lines ≤ most_satisfaction_orders → SheetReading sheet lines (set said i line) next (i + 1)
       unfolding after_line
-      line_put a b d next g few =
+      line_put line next g few =
           record {
             rest =
                 w.rest ∙ ap (behind (each (said_line said) 0 i)) (on ∙ ap (after_line (lines - (i + 1)) sheet) g)
-                ∙ behind_more (each (said_line said) 0 i) (record { reason = a; filled = b; cancelled = d }) (sheet_lines (lines - (i + 1)) (spot_at 0 sheet next))
-                ∙ ap (λ (l : List SheetLine). behind l (sheet_lines (lines - (i + 1)) (spot_at 0 sheet next))) (sym (put_lines said i a b d w.long (omega arith)));
+                ∙ behind_more (each (said_line said) 0 i) (as_line line) (sheet_lines (lines - (i + 1)) (spot_at 0 sheet next))
+                ∙ ap (λ (l : List SheetLine). behind l (sheet_lines (lines - (i + 1)) (spot_at 0 sheet next))) (sym (put_lines said i line w.long (omega arith)));
             low = omega arith;
-            long = put_long said i a b d w.long (omega arith);
+            long = put_long said i line w.long (omega arith);
           }
 
     pub lines_read_lem : lines ≤ i → LinesRead sheet lines said (record { lines = lines; place = at })
@@ -172,15 +159,15 @@ module _ (sheet : List ℕ) (lines : ℕ) where
         let e : i ≡ lines = omega (arith, w.low) in
         record { cut = λ lt. let z : ⊥ = omega arith in elim z [ ]; whole = λ le. rw e at w; low = omega arith }
 
-    pub said_long : length said ≡ most_satisfaction_orders * 3
+    pub said_long : length said ≡ most_satisfaction_orders
     said_long = w.long
 
 pub ruleset lines_read_laws = (nothing_read, line_cut, line_put, lines_read_lem, said_long)
 
 -- ---- nothing after the last line
 
-module _ (sheet : List ℕ) (lines : ℕ) (said : List ℕ) (r : Reach) (l : LinesRead sheet lines said r) where
-  pub lines_cut : r.lines < lines → SheetRead sheet lines said (Refused not_three_each r.place)
+module _ (sheet : List ℕ) (lines : ℕ) (said : List Said) (r : Reach) (l : LinesRead sheet lines said r) where
+  pub lines_cut : r.lines < lines → SheetRead sheet lines said (Err (record { refusal = NotThreeEach; place = r.place }))
   lines_cut = l.cut
 
   module _ (h : lines ≤ r.lines) where
@@ -190,7 +177,7 @@ module _ (sheet : List ℕ) (lines : ℕ) (said : List ℕ) (r : Reach) (l : Lin
     done : lines - lines ≡ 0
     done = omega arith
 
-    pub bytes_left : r.place < length sheet → SheetRead sheet lines said (Refused not_three_each r.place)
+    pub bytes_left : r.place < length sheet → SheetRead sheet lines said (Err (record { refusal = NotThreeEach; place = r.place }))
     unfolding sheet_lines ◌>>=◌ demand
     bytes_left lt =
         record {
@@ -198,7 +185,7 @@ module _ (sheet : List ℕ) (lines : ℕ) (said : List ℕ) (r : Reach) (l : Lin
           long = every_line.long;
         }
 
-    pub sheet_read : length sheet ≤ r.place → SheetRead sheet lines said Accepted
+    pub sheet_read : length sheet ≤ r.place → SheetRead sheet lines said (Ok tt)
     unfolding sheet_lines ◌>>=◌ demand
     sheet_read le =
         record {

@@ -3,41 +3,49 @@ use mathlib.Core.Path.{◌≡◌, refl, subst}
 use mathlib.Core.Bool.{◌&&◌}
 use mathlib.Core.List.{List}
 use Prim.Native.Nat.{ℕ, ◌+◌, ◌*◌, ◌<◌, ◌≤◌}
-use native.Mathlib.Nat.{mul_right_comm, mul-le-mul_right, mul-lt-mul_of_pos_right, lt_of_mul-lt-mul_right, mul-zero, one-mul, le_of_lt}
+use native.Mathlib.Nat.{mul_right_comm, mul-le-mul_right, mul-lt-mul_of_pos_right, lt_of_mul-lt-mul_right, le_of_lt}
 use native.Mathlib.Omega.{arith}
 use lib.Dec.{ltb}
 use borrow.Author.Tests.{ltb-true, ltb-false, lt-ltb, le-ltb}
 use borrow.Author.Count.{below_more}
+use Rattle.std.specs.Prelude.{Option, Some, None}
 use Rattle.rules.proofs.Tests.{by_test}
 use Rattle.sharing.specs.declared.Turn.{Turn}
-use Rattle.fairness.specs.Lines.{at, Served}
-use Rattle.sharing.specs.Turns.{sooner_of, Least, Nobody, Found, nobody, least, Scanning}
+use Rattle.fairness.specs.Lines.{claim_at, contracts_at, filled_at, Served, nothing}
+use Rattle.fairness.specs.declared.Portion.{Portion}
+use lib.ListN.{get_or, length}
+use Rattle.sharing.specs.Turns.{before_best, sooner_of, Least, Found, Scanning}
 use Rattle.rows.proofs.Rows.{words_product_fits}
 
 -- ---- the better of two
 
-module _ (best : Turn) (line fill claim customers : ℕ) where
-  pub sooner_filled : claim ≤ fill → best ≡ sooner_of best line fill claim customers
+module _ (best : Option Turn) (line : ℕ) (p : Portion) where
+  pub sooner_filled : p.claim ≤ p.filled → best ≡ sooner_of best line p
   unfolding sooner_of
-  sooner_filled h = rw (le-ltb fill claim h)
+  sooner_filled h = rw (le-ltb p.filled p.claim h)
 
-  module _ (unfilled : fill < claim) where
-    turn_taken : (fill + 1) * best.customers < best.fill * customers → record { line = line; fill = fill + 1; customers = customers } ≡ sooner_of best line fill claim customers
+  module _ (unfilled : p.filled < p.claim) where
+    pub sooner_first : best ≡ None → Some (record { line = line; fill = p.filled + 1; customers = p.customers }) ≡ sooner_of best line p
     unfolding sooner_of
-    turn_taken h = rw (lt-ltb fill claim unfilled, lt-ltb ((fill + 1) * best.customers) (best.fill * customers) h)
+    sooner_first e = rw (e, lt-ltb p.filled p.claim unfilled)
 
-    turn_kept : best.fill * customers ≤ (fill + 1) * best.customers → best ≡ sooner_of best line fill claim customers
-    unfolding sooner_of
-    turn_kept h = rw (lt-ltb fill claim unfilled, le-ltb ((fill + 1) * best.customers) (best.fill * customers) h)
+    module _ (t : Turn) (e : best ≡ Some t) where
+      turn_taken : (p.filled + 1) * t.customers < t.fill * p.customers → Some (record { line = line; fill = p.filled + 1; customers = p.customers }) ≡ sooner_of best line p
+      unfolding sooner_of
+      turn_taken h = rw (e, lt-ltb p.filled p.claim unfilled, lt-ltb ((p.filled + 1) * t.customers) (t.fill * p.customers) h)
 
-    module _ (a b c d : ℕ) (ea : a ≡ fill + 1) (eb : b ≡ best.customers) (ec : c ≡ best.fill) (ed : d ≡ customers) where
-      pub sooner_taken : a * b < c * d → record { line = line; fill = fill + 1; customers = customers } ≡ sooner_of best line fill claim customers
-      sooner_taken h = turn_taken (rw (← ea, ← eb, ← ec, ← ed) h)
+      turn_kept : t.fill * p.customers ≤ (p.filled + 1) * t.customers → best ≡ sooner_of best line p
+      unfolding sooner_of
+      turn_kept h = rw (e, lt-ltb p.filled p.claim unfilled, le-ltb ((p.filled + 1) * t.customers) (t.fill * p.customers) h)
 
-      pub sooner_kept : c * d ≤ a * b → best ≡ sooner_of best line fill claim customers
-      sooner_kept h = turn_kept (rw (← ea, ← eb, ← ec, ← ed) h)
+      module _ (a b c d : ℕ) (ea : a ≡ p.filled + 1) (eb : b ≡ t.customers) (ec : c ≡ t.fill) (ed : d ≡ p.customers) where
+        pub sooner_taken : a * b < c * d → Some (record { line = line; fill = p.filled + 1; customers = p.customers }) ≡ sooner_of best line p
+        sooner_taken h = turn_taken (rw (← ea, ← eb, ← ec, ← ed) h)
 
-pub ruleset sooner_laws = (sooner_filled, sooner_taken, sooner_kept, words_product_fits)
+        pub sooner_kept : c * d ≤ a * b → best ≡ sooner_of best line p
+        sooner_kept h = turn_kept (rw (← ea, ← eb, ← ec, ← ed) h)
+
+pub ruleset sooner_laws = (sooner_filled, sooner_first, sooner_taken, sooner_kept, words_product_fits)
 
 -- ---- fractions: x / c < y / d ≤ z / e
 
@@ -50,37 +58,37 @@ fractions_less x c y d z e p h k =
 
 -- ---- the scan
 
-module _ (claim customers fill : List ℕ) (k : ℕ) where
-  module _ (i : ℕ) (t : Turn) where
-    filled_line_passed : at claim i ≤ at fill i → Found claim customers fill k i t → Found claim customers fill k (i + 1) t
-    filled_line_passed h (nobody n) = nobody (record { filled = below_more (λ j. at claim j ≤ at fill j) i n.filled h; is = n.is })
-    filled_line_passed h (least l) =
-        least (record {
-          here = omega (arith, l.here);
-          unfilled = l.unfilled;
-          one_more = l.one_more;
-          own = l.own;
-          least = below_more (λ j. at fill j < at claim j → t.fill * at customers j ≤ (at fill j + 1) * t.customers) i l.least (λ u. absurd (omega arith));
-          earliest = l.earliest;
-        })
-
-    later_line_passed : at fill i < at claim i → t.fill * at customers i ≤ (at fill i + 1) * t.customers → Least claim customers fill i t → Least claim customers fill (i + 1) t
-    later_line_passed u h l =
+module _ (portions : List Portion) where
+  module _ (i : ℕ) where
+    filled_line_passed : (best : Option Turn) → claim_at portions i ≤ filled_at portions i → Found portions i best → Found portions (i + 1) best
+    filled_line_passed None h filled = below_more (λ j. claim_at portions j ≤ filled_at portions j) i filled h
+    filled_line_passed (Some t) h l =
         record {
           here = omega (arith, l.here);
           unfilled = l.unfilled;
           one_more = l.one_more;
           own = l.own;
-          least = below_more (λ j. at fill j < at claim j → t.fill * at customers j ≤ (at fill j + 1) * t.customers) i l.least (λ v. h);
+          least = below_more (λ j. filled_at portions j < claim_at portions j → t.fill * contracts_at portions j ≤ (filled_at portions j + 1) * t.customers) i l.least (λ u. absurd (omega arith));
+          earliest = l.earliest;
+        }
+
+    later_line_passed : (t : Turn) → filled_at portions i < claim_at portions i → t.fill * contracts_at portions i ≤ (filled_at portions i + 1) * t.customers → Least portions i t → Least portions (i + 1) t
+    later_line_passed t u h l =
+        record {
+          here = omega (arith, l.here);
+          unfilled = l.unfilled;
+          one_more = l.one_more;
+          own = l.own;
+          least = below_more (λ j. filled_at portions j < claim_at portions j → t.fill * contracts_at portions j ≤ (filled_at portions j + 1) * t.customers) i l.least (λ v. h);
           earliest = l.earliest;
         }
 
     turn : Turn
-    turn = record { line = i; fill = at fill i + 1; customers = at customers i }
+    turn = record { line = i; fill = filled_at portions i + 1; customers = contracts_at portions i }
 
     -- line i's turn comes before that of every line below it
-    first_turn_is_least : at fill i < at claim i → ((j : ℕ) → j < i → at fill j < at claim j → (at fill i + 1) * at customers j < (at fill j + 1) * at customers i)
-        → Least claim customers fill (i + 1) turn
+    first_turn_is_least : filled_at portions i < claim_at portions i → ((j : ℕ) → j < i → filled_at portions j < claim_at portions j → (filled_at portions i + 1) * contracts_at portions j < (filled_at portions j + 1) * contracts_at portions i)
+        → Least portions (i + 1) turn
     unfolding turn
     first_turn_is_least u f =
         record {
@@ -88,60 +96,60 @@ module _ (claim customers fill : List ℕ) (k : ℕ) where
           unfilled = u;
           one_more = refl;
           own = refl;
-          least = below_more (λ j. at fill j < at claim j → (at fill i + 1) * at customers j ≤ (at fill j + 1) * at customers i) i (λ j h v. le_of_lt (f j h v)) (λ v. omega arith);
+          least = below_more (λ j. filled_at portions j < claim_at portions j → (filled_at portions i + 1) * contracts_at portions j ≤ (filled_at portions j + 1) * contracts_at portions i) i (λ j h v. le_of_lt (f j h v)) (λ v. omega arith);
           earliest = f;
         }
 
-    module _ (served : Served claim customers k) (low : i < k) (u : at fill i < at claim i) where
-      first_open_line_found : Nobody claim fill k i t → Found claim customers fill k (i + 1) (sooner_of t i (at fill i) (at claim i) (at customers i))
-      first_open_line_found n =
-          let z : (at fill i + 1) * t.customers < t.fill * at customers i =
-          rw (n.is, mul-zero (at fill i + 1), one-mul (at customers i)) (omega (arith, served i low)) in
-          subst (Found claim customers fill k (i + 1)) (turn_taken t i (at fill i) (at claim i) (at customers i) u z)
-          (least (unfold turn in first_turn_is_least u (λ j h v. absurd (omega (arith, n.filled j h)))))
+    abbrev after : Option Turn → Option Turn
+    after best = sooner_of best i (get_or portions i nothing)
 
-      later_open_line_found : Least claim customers fill i t → Found claim customers fill k (i + 1) (sooner_of t i (at fill i) (at claim i) (at customers i))
-      later_open_line_found l =
-          by_test (ltb ((at fill i + 1) * t.customers) (t.fill * at customers i))
+    module _ (served : Served portions) (low : i < length portions) (u : filled_at portions i < claim_at portions i) where
+      open_line_found : (best : Option Turn) → Found portions i best → Found portions (i + 1) (after best)
+      open_line_found None filled =
+          subst (Found portions (i + 1)) (sooner_first None i (get_or portions i nothing) u refl)
+          (unfold turn in first_turn_is_least u (λ j h v. absurd (omega (arith, filled j h))))
+      open_line_found (Some t) l =
+          by_test (ltb ((filled_at portions i + 1) * t.customers) (t.fill * contracts_at portions i))
           (λ e.
           let z = ltb-true _ _ e in
-          subst (Found claim customers fill k (i + 1)) (turn_taken t i (at fill i) (at claim i) (at customers i) u z)
-          (least (unfold turn in first_turn_is_least u (λ j h v.
-          fractions_less (at fill i + 1) (at customers i) t.fill t.customers (at fill j + 1) (at customers j) (omega (arith, served j (omega arith))) z (l.least j h v)))))
+          subst (Found portions (i + 1)) (turn_taken (Some t) i (get_or portions i nothing) u t refl z)
+          (unfold turn in first_turn_is_least u (λ j h v.
+          fractions_less (filled_at portions i + 1) (contracts_at portions i) t.fill t.customers (filled_at portions j + 1) (contracts_at portions j) (omega (arith, served j (omega arith))) z (l.least j h v))))
           (λ e.
           let z = ltb-false _ _ e in
-          subst (Found claim customers fill k (i + 1)) (turn_kept t i (at fill i) (at claim i) (at customers i) u z) (least (later_line_passed u z l)))
+          subst (Found portions (i + 1)) (turn_kept (Some t) i (get_or portions i nothing) u t refl z) (later_line_passed t u z l))
 
-    found_more : Served claim customers k → i < k → Found claim customers fill k i t
-        → Found claim customers fill k (i + 1) (sooner_of t i (at fill i) (at claim i) (at customers i))
-    found_more served low f =
-        by_test (ltb (at fill i) (at claim i))
-        (λ e. unfilled_line (ltb-true _ _ e) f)
+    found_more : Served portions → i < length portions → (best : Option Turn) → Found portions i best → Found portions (i + 1) (after best)
+    found_more served low best f =
+        by_test (ltb (filled_at portions i) (claim_at portions i))
+        (λ e. open_line_found served low (ltb-true _ _ e) best f)
         (λ e.
         let z = ltb-false _ _ e in
-        subst (Found claim customers fill k (i + 1)) (sooner_filled t i (at fill i) (at claim i) (at customers i) z) (filled_line_passed z f))
-      where
-        unfilled_line : at fill i < at claim i → Found claim customers fill k i t → Found claim customers fill k (i + 1) (sooner_of t i (at fill i) (at claim i) (at customers i))
-        unfilled_line u (nobody n) = first_open_line_found served low u n
-        unfilled_line u (least l) = later_open_line_found served low u l
+        subst (Found portions (i + 1)) (sooner_filled best i (get_or portions i nothing) z) (filled_line_passed best z f))
 
-    sooner_low : t.line ≤ k → i < k → (fill' claim' customers' : ℕ) → (sooner_of t i fill' claim' customers').line ≤ k
+    sooner_low : (best : Option Turn) → ((t : Turn) → best ≡ Some t → t.line < length portions) → i < length portions → (p : Portion) (t : Turn) → sooner_of best i p ≡ Some t → t.line < length portions
     unfolding sooner_of
-    sooner_low a b f c s = by_test (ltb f c && ltb ((f + 1) * t.customers) (t.fill * s)) (λ e. rw e (le_of_lt b)) (λ e. rw e a)
+    sooner_low best a b p t e =
+        by_test (ltb p.filled p.claim && before_best (p.filled + 1) p.customers best)
+        (λ q.
+        let r : Some (record { line = i; fill = p.filled + 1; customers = p.customers }) ≡ Some t = rw q at e in
+        let l : i ≡ t.line = cc in
+        rw (← l) b)
+        (λ q. a t (rw q at e))
 
-  pub scanning_none : Scanning claim customers fill k 0 (record { line = k; fill = 1; customers = 0 })
+  pub scanning_none : Scanning portions 0 None
   scanning_none =
       record {
-        found = λ served. nobody (record { filled = λ i h. absurd (omega arith); is = refl });
-        line_low = omega arith;
+        found = λ served i h. absurd (omega arith);
+        line_low = λ t e. cc;
         low = omega arith;
       }
 
-  pub scanning_more : (i : ℕ) (t u : Turn) → Scanning claim customers fill k i t → i < k
-      → u ≡ sooner_of t i (at fill i) (at claim i) (at customers i) → Scanning claim customers fill k (i + 1) u
+  pub scanning_more : (i : ℕ) (t u : Option Turn) → Scanning portions i t → i < length portions
+      → u ≡ sooner_of t i (get_or portions i nothing) → Scanning portions (i + 1) u
   scanning_more i t u s h e =
       record {
-        found = λ served. rw e (found_more i t served h (s.found served));
-        line_low = rw e (sooner_low i t s.line_low h (at fill i) (at claim i) (at customers i));
+        found = λ served. rw e (found_more i served h t (s.found served));
+        line_low = rw e (sooner_low i t s.line_low h (get_or portions i nothing));
         low = omega arith;
       }

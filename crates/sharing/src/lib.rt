@@ -1,11 +1,11 @@
-// How what is due on a trade is shared out among its lines, which are the first k words of arrays, as in `fairness`.
+// How what is due on a trade is shared out among its lines.
 #![tactic(auto)]
 
-ghost use Rattle.std.specs.Prelude.{◌≡◌, ◌≤◌};
+ghost use Rattle.std.specs.Prelude.{◌≡◌, ◌≤◌, length, map};
 ghost use Rattle.rules.specs.Limits.{most_trade_lines};
-ghost use Rattle.sharing.specs.Turns.{sooner_of, NextTurn, Given, SharedOut};
+ghost use Rattle.sharing.specs.Turns.{sooner_of, NextTurn, Given, emptied, full, SharedOut};
 
-use rows::TradeLines;
+use fairness::Portion;
 
 // The line that the next contract goes to: its number, its fill with that contract, its customer contracts.
 #[derive(Clone, Copy)]
@@ -16,87 +16,78 @@ struct Turn {
 }
 
 // "the unfilled line with the least (fill + 1) per customer contract, the earliest on a tie": of the best line so far and a later one.
-fn sooner(best: Turn, line: usize, fill: u32, claim: u32, customers: u32) -> Turn
-    ensures { result ≡ sooner_of best line fill claim customers }
+#[tactic(auto, using(crate::proofs::Turns::sooner_laws))]
+fn sooner(best: Option<Turn>, line: usize, portion: Portion) -> Option<Turn>
+    ensures { result ≡ sooner_of best line portion }
 {
-    if claim <= fill {
+    if portion.claim <= portion.filled {
         return best;
     }
-    let more = fill + 1;
-    if rows::wide(more) * rows::wide(best.customers)
-        < rows::wide(best.fill) * rows::wide(customers)
-    {
-        return Turn {
-            line,
-            fill: more,
-            customers,
-        };
+    let more = portion.filled + 1;
+    if let Some(turn) = best {
+        if u64::from(turn.fill) * u64::from(portion.customers)
+            <= u64::from(more) * u64::from(turn.customers)
+        {
+            return best;
+        }
+    }
+    Some(Turn {
+        line,
+        fill: more,
+        customers: portion.customers,
+    })
+}
+
+// Whose turn it is: nobody's, where every line is filled.
+fn next_turn(portions: &[Portion]) -> Option<Turn>
+    ensures { NextTurn portions.now result }
+{
+    let mut best: Option<Turn> = None;
+    for (i, portion) in portions.iter().enumerate() {
+        best = sooner(best, i, *portion);
     }
     best
 }
 
-// Where every line is filled, the answer's line is k: one contract on no customer contracts comes after any line's turn.
-fn next_turn(
-    claim: &[u32; TradeLines::MOST],
-    customers: &[u32; TradeLines::MOST],
-    fill: &[u32; TradeLines::MOST],
-    k: usize,
-) -> Turn
-    requires { k ≤ most_trade_lines }
-    ensures { NextTurn claim.now customers.now fill.now k result }
-{
-    let mut turn = Turn {
-        line: k,
-        fill: 1,
-        customers: 0,
-    };
-    let mut i: usize = 0;
-    while i < k {
-        turn = sooner(turn, i, fill[i], claim[i], customers[i]);
-        i += 1;
-    }
-    turn
-}
-
 // "one contract at a time, each to the unfilled line with the least (fill + 1) per customer contract": so many more, or until every line is filled.
-fn give_in_turn(
-    claim: &[u32; TradeLines::MOST],
-    customers: &[u32; TradeLines::MOST],
-    k: usize,
-    contracts: u64,
-    fill: &mut [u32; TradeLines::MOST],
-)
-    requires { k ≤ most_trade_lines }
-    ensures { Given claim.now customers.now k contracts fill.old fill.new }
+fn give_in_turn(portions: &mut [Portion], contracts: u64)
+    ensures { Given contracts portions.old portions.new }
 {
-    let mut given: u64 = 0;
-    while given < contracts {
-        let turn = next_turn(claim, customers, fill, k);
-        let line = turn.line;
-        if line == k {
+    for _ in 0..contracts {
+        let Some(turn) = next_turn(portions) else {
             return;
-        }
-        fill[line] = turn.fill;
-        given += 1;
+        };
+        portions[turn.line].filled = turn.fill;
     }
 }
 
-// The fills of our own sheet. Where all claims are due each line gets its claim at once. Words of fill from k on stay.
-pub fn share_out(
-    claim: &[u32; TradeLines::MOST],
-    customers: &[u32; TradeLines::MOST],
-    k: usize,
-    due: u64,
-    fill: &mut [u32; TradeLines::MOST],
-)
-    requires { k ≤ most_trade_lines }
-    ensures { SharedOut claim.now customers.now k due fill.old fill.new }
+// No line is filled.
+fn empty(portions: &mut [Portion])
+    ensures { portions.new ≡ map emptied portions.old }
 {
-    if due == fairness::total(claim, k) {
-        rows::copy_first(claim, k, fill);
+    for portion in portions.iter_mut() {
+        portion.filled = 0;
+    }
+}
+
+// Each line is filled up to its claim.
+fn fill(portions: &mut [Portion])
+    ensures { portions.new ≡ map full portions.old }
+{
+    for portion in portions.iter_mut() {
+        portion.filled = portion.claim;
+    }
+}
+
+// The fills of our own sheet. Where all claims are due each line gets its claim at once.
+pub fn share_out(portions: &mut [Portion], due: u64)
+    requires { length portions.old ≤ most_trade_lines }
+    ensures { SharedOut due portions.old portions.new }
+{
+    fill(portions);
+    if due == fairness::total(portions) {
         return;
     }
-    let none = [0u32; TradeLines::MOST];
-    rows::copy_first(&none, k, fill);
-    give_in_turn(claim, customers, k, due, fill);
+    empty(portions);
+    give_in_turn(portions, due);
 }

@@ -4,8 +4,8 @@ use mathlib.Core.List.{List, map, Memᴰ}
 use Prim.Native.Nat.{ℕ, ◌+◌, ◌-◌, ◌<◌, ◌≤◌}
 use native.Mathlib.Omega.{arith}
 use lib.Dec.{eqb}
-use lib.ListN.{get_or, length, take, replicate, set, length-set}
-use lib.Seq.{get_or-take, get_or-set_same, get_or-set_other}
+use lib.ListN.{get_or, length, take, set, length-set, get_or-map}
+use lib.Seq.{length-take-le, get_or-set_same, get_or-set_other}
 use borrow.Author.Tests.{eqb-true, eqb-false}
 use Rattle.rules.specs.Limits.{most_trades, most_satisfaction_orders, most_trade_lines}
 use Rattle.rules.specs.Journal.{Journal}
@@ -17,7 +17,8 @@ use Rattle.rules.proofs.Tests.{by_test, keep_sub, by_place}
 use Rattle.rules.proofs.Below.{at_below}
 use Rattle.rules.proofs.Lines.{LineKnown, lines_known}
 use Rattle.rules.proofs.ByTrade.{lines_numbered_from_0, line_among_its_trade, trade_line_among_all, trade_lines_differ, own_fill_at}
-use Rattle.fairness.specs.Lines.{Lined}
+use Rattle.fairness.specs.Lines.{fills_in, Lined, filled_at, nothing}
+use Rattle.fairness.specs.declared.Portion.{Portion}
 use Rattle.fairness.proofs.Lines.{known_line_sound}
 use Rattle.sharing.specs.Turns.{SharedOut}
 use Rattle.claims.specs.Lines as table
@@ -28,47 +29,44 @@ use Rattle.sheet.specs.Tables.{Apart, Scattered, Scattering, FilledBelow, FillsT
 
 -- ---- a trade's fills, each to the word of its line
 
-module _ (claims : List ℕ) (m k : ℕ) (fill fills : List ℕ) where
-  pub scattered_none : Scattering claims m k fill fills fills 0
+module _ (claims : List ℕ) (m : ℕ) (portions : List Portion) (fills : List ℕ) where
+  pub scattered_none : Scattering claims m portions fills fills 0
   scattered_none =
       record {
         done = record { own = λ l a y h. absurd (omega arith); others = λ p ne. refl; long = refl };
         low = omega arith;
       }
 
-  module _ (fills2 : List ℕ) (i : ℕ) (s : Scattering claims m k fill fills fills2 i) where
-    pub scattered_all : k ≤ i → Scattered claims m fill fills fills2 k
-    scattered_all h = let e : i ≡ k = omega (arith, s.low) in subst (Scattered claims m fill fills fills2) e s.done
+  module _ (fills2 : List ℕ) (i : ℕ) (s : Scattering claims m portions fills fills2 i) where
+    pub scattered_all : length portions ≤ i → Scattered claims m portions fills fills2 (length portions)
+    scattered_all h = let e : i ≡ length portions = omega (arith, s.low) in subst (Scattered claims m portions fills fills2) e s.done
 
-    module _ (h : i < k) where
-      pub line_there : k ≤ many_of claims m → i < many_of claims m
+    module _ (h : i < length portions) where
+      pub line_there : length portions ≤ many_of claims m → i < many_of claims m
       line_there a = omega arith
 
-      pub fill_there : Findable claims m → k ≤ many_of claims m → i < most_trade_lines
-      fill_there f a = omega (arith, f.few_lines)
-
-      pub scattered_more : (p : ℕ) → NumberIs claims m i p → Scattering claims m k fill fills (set fills2 p (get_or fill i 0)) (i + 1)
+      pub scattered_more : (p : ℕ) → NumberIs claims m i p → Scattering claims m portions fills (set fills2 p (filled_at portions i)) (i + 1)
       scattered_more p is =
           record {
             done =
                 record {
                   own = own;
-                  others = λ q ne. get_or-set_other fills2 p q (get_or fill i 0) 0 (λ z. ne i (omega arith) (z ∙ is.is)) ∙ s.done.others q (λ y hy. ne y (omega arith));
+                  others = λ q ne. get_or-set_other fills2 p q (filled_at portions i) 0 (λ z. ne i (omega arith) (z ∙ is.is)) ∙ s.done.others q (λ y hy. ne y (omega arith));
                   long = simp length-set s.done.long;
                 };
             low = omega arith;
           }
         where
-          own : length fills ≡ most_satisfaction_orders → Apart claims m (i + 1) → (y : ℕ) → y < i + 1 → get_or (set fills2 p (get_or fill i 0)) (number_at claims m y) 0 ≡ get_or fill y 0
+          own : length fills ≡ most_satisfaction_orders → Apart claims m (i + 1) → (y : ℕ) → y < i + 1 → get_or (set fills2 p (filled_at portions i)) (number_at claims m y) 0 ≡ filled_at portions y
           own long apart y hy =
               by_test (eqb y i)
               (λ q. let e = eqb-true y i q in
-              rw e (ap (λ (x : ℕ). get_or (set fills2 p (get_or fill i 0)) x 0) (sym is.is) ∙ get_or-set_same fills2 p (get_or fill i 0) 0 (omega (arith, is.low, s.done.long))))
+              rw e (ap (λ (x : ℕ). get_or (set fills2 p (filled_at portions i)) x 0) (sym is.is) ∙ get_or-set_same fills2 p (filled_at portions i) 0 (omega (arith, is.low, s.done.long))))
               (λ q. let ne = eqb-false y i q in
-              get_or-set_other fills2 p (number_at claims m y) (get_or fill i 0) 0 (λ z. ne (apart y i hy (omega arith) (z ∙ is.is)))
+              get_or-set_other fills2 p (number_at claims m y) (filled_at portions i) 0 (λ z. ne (apart y i hy (omega arith) (z ∙ is.is)))
               ∙ s.done.own long (λ a b ha hb. apart a b (omega arith) (omega arith)) y (omega (arith, ne)))
 
-pub ruleset scatter_laws = (scattered_none, scattered_all, line_there, fill_there, scattered_more)
+pub ruleset scatter_laws = (scattered_none, scattered_all, line_there, scattered_more)
 
 -- ---- what the tables of a whole journal say of one trade's lines
 
@@ -104,18 +102,14 @@ module _ (j : Journal) (trades claims : List ℕ) (traded n : ℕ) (b : Books j 
         let z : (line_at (of_trade m (lines j)) y).number - 0 ≡ i = omega (arith, e, numbers_are y hy) in
         ap (λ (x : ℕ). (line_at (lines j) x).trade) (sym z) ∙ ap (λ (l : Line). l.trade) t.is ∙ t.of_trade_lem
 
-    side_by_side : (claim customers : List ℕ) (k : ℕ) → Gathered claims m claim customers k → Lined (of_trade m (lines j)) claim customers k
+    side_by_side : (portions : List Portion) (k : ℕ) → Gathered claims m portions k → Lined (of_trade m (lines j)) (take k portions)
     unfolding lines
-    side_by_side claim customers k g =
-        let ls = gathered_lines j.header j.history claims n m claim customers k hm b.lined g in
+    side_by_side portions k g =
+        let ls = gathered_lines j.header j.history claims n m portions k hm b.lined g in
         record {
-          many = ls.many;
-          few = g.few;
           claims = ls.claims;
           customer_contracts = ls.contracts;
           sound = λ l mem. known_line_sound j.header j.history l (known_in_books l (unfold of_trade in keep_sub _ (lines j) l mem));
-          claim_words = g.claim_words;
-          customer_words = g.customer_words;
         }
 
 -- ---- one trade
@@ -124,22 +118,25 @@ module _ (claims trades : List ℕ) (m : ℕ) (f : Findable claims m) where
   pub trade_low : m < most_trades
   trade_low = f.trade
 
-  module _ (claim customers : List ℕ) (k : ℕ) (g : Gathered claims m claim customers k) where
+  module _ (portions : List Portion) (k : ℕ) (g : Gathered claims m portions k) where
     pub gathered_few : k ≤ most_trade_lines
     gathered_few = g.few
 
     pub gathered_many : k ≤ many_of claims m
     gathered_many = omega (arith, g.many)
 
-    module _ (fills : List ℕ) (d : ℕ) (is : DueIs claims trades m d) (w : ℕ) (wide : (w ≡ d) × (w < 4294967296))
-        (fill : List ℕ) (s : SharedOut claim customers k w (replicate most_trade_lines 0) fill) (fills2 : List ℕ) (sc : Scattered claims m fill fills fills2 k) where
+    module _ (fills : List ℕ) (d : ℕ) (is : DueIs claims trades m d) (w : ℕ) (wide : w ≡ d)
+        (shared : List Portion) (s : SharedOut w (take k portions) shared) (fills2 : List ℕ) (sc : Scattered claims m shared fills fills2 (length shared)) where
+      shared_many : length shared ≡ k
+      shared_many = s.long ∙ length-take-le k portions (omega (arith, g.few, g.long))
+
       module _ (j : Journal) (traded n : ℕ) (b : Books j trades claims traded n) (hm : m < traded) where
         due_total : w ≡ due j m
-        due_total = wide.0 ∙ is.so j.header j.history b.snaps traded n hm f.trade b.traded b.lined
+        due_total = wide ∙ is.so j.header j.history b.snaps traded n hm f.trade b.traded b.lined
 
-        shares : take k fill ≡ fills_of (own_shares j m)
+        shares : fills_in shared ≡ fills_of (own_shares j m)
         shares =
-            s.shares (of_trade m (lines j)) (side_by_side j trades claims traded n b m f.trade claim customers k g)
+            s.shares (of_trade m (lines j)) (side_by_side j trades claims traded n b m f.trade portions k g)
             ∙ (unfold own_shares in ap (λ (x : ℕ). fills_of (give x (map empty (of_trade m (lines j))))) due_total)
 
         filled_here : length fills ≡ most_satisfaction_orders → (i : ℕ) → i < length (lines j) → (line_at (lines j) i).trade ≡ m → get_or fills2 i 0 ≡ own_fill j (line_at (lines j) i)
@@ -148,13 +145,13 @@ module _ (claims trades : List ℕ) (m : ℕ) (f : Findable claims m) where
             let low : p.place < length (of_trade m (lines j)) = subst (λ x. p.place < length (of_trade x (lines j))) of p.low in
             let same : line_at (of_trade m (lines j)) p.place ≡ line_at (lines j) i = subst (λ x. line_at (of_trade x (lines j)) p.place ≡ line_at (lines j) i) of p.is in
             let hp : p.place < many_of claims m = omega (arith, many_lines j trades claims traded n b m f.trade) in
-            let hk : p.place < k = omega (arith, g.many) in
+            let hk : p.place < length shared = omega (arith, g.many, shared_many) in
             let number : number_at claims m p.place ≡ i =
             sym (numbers_are j trades claims traded n b m f.trade p.place hp) ∙ ap (λ (x : Line). x.number) same ∙ lines_numbered_from_0 j i hi ∙ omega arith in
-            let apart : Apart claims m k = subst (Apart claims m) (sym g.many) (numbers_apart j trades claims traded n b m f.trade) in
+            let apart : Apart claims m (length shared) = subst (Apart claims m) (sym (shared_many ∙ g.many)) (numbers_apart j trades claims traded n b m f.trade) in
             ap (λ (x : ℕ). get_or fills2 x 0) (sym number)
             ∙ sc.own l apart p.place hk
-            ∙ sym (get_or-take k fill p.place 0 hk)
+            ∙ sym (get_or-map (λ (x : Portion). x.filled) shared p.place nothing)
             ∙ ap (λ (x : List ℕ). get_or x p.place 0) shares
             ∙ sym (own_fill_at j m p.place low (ap (λ (x : Line). x.trade) same ∙ of))
             ∙ ap (own_fill j) same
@@ -166,7 +163,7 @@ module _ (claims trades : List ℕ) (m : ℕ) (f : Findable claims m) where
                   λ i hi below. by_test (eqb (line_at (lines j) i).trade m)
                   (λ q. filled_here l i hi (eqb-true (line_at (lines j) i).trade m q))
                   (λ q. let ne = eqb-false (line_at (lines j) i).trade m q in
-                  sc.others i (λ y hy e. ne (trade_of_number j trades claims traded n b m f.trade i y (omega (arith, g.many)) e)) ∙ old.fill_of i hi (omega arith));
+                  sc.others i (λ y hy e. ne (trade_of_number j trades claims traded n b m f.trade i y (omega (arith, g.many, shared_many)) e)) ∙ old.fill_of i hi (omega arith));
             }
 
       pub trade_filled : FillsTrade claims trades m fills fills2

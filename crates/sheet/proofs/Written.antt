@@ -20,12 +20,14 @@ use Rattle.rules.proofs.Lines.{LineKnown, lines_count, due_at_most_claims}
 use Rattle.rules.proofs.OwnSheet.{known_total_is_due}
 use Rattle.rules.proofs.ByTrade.{line_among_its_trade, own_fill_at}
 use Rattle.number.specs.Writing.{left_by, left_at, write_number}
-use Rattle.text.specs.declared.Written.{Written}
-use Rattle.text.specs.declared.Written.TheVariants.{To, Refused}
+use Rattle.std.specs.Prelude.{Result, Ok, Err}
+use Rattle.std.specs.Result.{result_unwrap_or}
+use Rattle.rows.specs.declared.Refusal.{Refusal}
+use Rattle.rows.specs.declared.Refusal.TheVariants.{OutputTooShort}
 use Rattle.text.specs.Lent.{Wrote, Takes}
 use Rattle.text.proofs.Lent.{wrote_none, wrote_then, writes_short, writes_all}
 use Rattle.several.specs.Numbers.{Small}
-use Rattle.several.proofs.Rows.{number_put, number_refused, bytes_of_more}
+use Rattle.several.proofs.Rows.{number_put, bytes_of_more}
 use Rattle.claims.specs.Lines as table
 use Rattle.claims.specs.Lines.{lines_from, Filing}
 use Rattle.claims.specs.Books.{Books, OwnFilled}
@@ -83,12 +85,9 @@ pub ruleset width_laws = (summing_none, summed_all, line_known, three_there, sum
 
 -- ---- a number, and a line of three
 
-module _ (s : List ℕ) (at x : ℕ) (r : Written) (d : List ℕ) (e : left_by r d ≡ left_at at (write_number x (length s - at)) s) (long : length d ≡ length s) (n : ℕ) where
-  pub puts_number : r ≡ To n → PutsNumber s at x d n
-  puts_number g = record { so = λ h room. number_put s at x h room r d e n g; long = long }
-
-  pub puts_no_number : r ≡ Refused n → PutsNumber s at x d at
-  puts_no_number g = record { so = λ h room. number_refused s at x h room r d e n g; long = long }
+pub puts_number : (s : List ℕ) (at x : ℕ) (r : Result ℕ Refusal) (d : List ℕ) → left_by r d ≡ left_at at (write_number x (length s - at)) s → length d ≡ length s → (n : ℕ) → n ≡ result_unwrap_or r at
+    → PutsNumber s at x d n
+puts_number s at x r d e long n g = record { so = λ h room. number_put s at x h room r d e n g; long = long }
 
 module _ (s : List ℕ) (at : ℕ) (row d1 : List ℕ) (p1 : ℕ) (a : PutsNumber s at (get_or row 0 0) d1 p1) (d2 : List ℕ) (p2 : ℕ) (b : PutsNumber d1 p1 (get_or row 1 0) d2 p2)
     (d3 : List ℕ) (p3 : ℕ) (c : PutsNumber d2 p2 (get_or row 2 0) d3 p3) where
@@ -141,7 +140,7 @@ module _ (s claims fills : List ℕ) (lines : ℕ) where
               let w2 = v1.so (stores i h) (omega (arith, long, bytes_grow claims fills (i + 1) lines (omega arith), w1.place, w.long)) in
               rw next (wrote_then s 0 (bytes_to claims fills i) out p (bytes_of_all (take 3 (three_at claims fills i))) out2 q w1 w2)
 
-pub ruleset put_laws = (puts_number, puts_no_number, puts_line, putting_none, putting_long, putting_all, line_here, putting_more)
+pub ruleset put_laws = (puts_number, puts_line, putting_none, putting_long, putting_all, line_here, putting_more)
 
 -- ---- they are the journal's own sheet
 
@@ -224,10 +223,10 @@ module _ (claims trades : List ℕ) (traded lines : ℕ) (asked : (traded ≤ mo
     bytes : (j : Journal) → Books j trades claims traded lines → bytes_to claims fills lines ≡ own_sheet j
     bytes j b = own_bytes j trades claims traded lines b fills (filled j b)
 
-    pub own_short : length out < w → OwnWritten claims trades traded lines out (Refused 9) out
+    pub own_short : length out < w → OwnWritten claims trades traded lines out (Err OutputTooShort) out
     own_short h = record { so = λ j b. let v = writes_short out (own_sheet j) w (t.exact ∙ ap length (bytes j b)) h in (v.answer, v.lent) }
 
-    pub own_written : w ≤ length out → (d : List ℕ) (p : ℕ) → PutsLines out claims fills lines d p → OwnWritten claims trades traded lines out (To p) d
+    pub own_written : w ≤ length out → (d : List ℕ) (p : ℕ) → PutsLines out claims fills lines d p → OwnWritten claims trades traded lines out (Ok p) d
     own_written h d p v =
         record {
           so =

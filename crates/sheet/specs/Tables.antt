@@ -5,6 +5,8 @@ use Rattle.rules.specs.Journal.{Journal}
 use Rattle.rules.specs.Due.{lines}
 use Rattle.rules.specs.OwnSheet.{own_fill}
 use Rattle.rules.specs.GoodSheet.{line_at}
+use Rattle.fairness.specs.Lines.{filled_at}
+use Rattle.fairness.specs.declared.Portion.{Portion}
 use Rattle.claims.specs.Lines.{number_at}
 use Rattle.claims.specs.Books.{Books, OwnFilled}
 
@@ -15,14 +17,14 @@ abbrev pub Apart : List ℕ → ℕ → ℕ → Type 0
 Apart claims m i = (x y : ℕ) → x < i → y < i → number_at claims m x ≡ number_at claims m y → x ≡ y
 
 -- they have their fills, and every other word stays
-pub record Scattered (claims : List ℕ) (m : ℕ) (fill fills fills2 : List ℕ) (i : ℕ) : Type 0 where
-  pub own : length fills ≡ most_satisfaction_orders → Apart claims m i → (y : ℕ) → y < i → get_or fills2 (number_at claims m y) 0 ≡ get_or fill y 0
+pub record Scattered (claims : List ℕ) (m : ℕ) (portions : List Portion) (fills fills2 : List ℕ) (i : ℕ) : Type 0 where
+  pub own : length fills ≡ most_satisfaction_orders → Apart claims m i → (y : ℕ) → y < i → get_or fills2 (number_at claims m y) 0 ≡ filled_at portions y
   pub others : (p : ℕ) → ((y : ℕ) → y < i → p ≡ number_at claims m y → ⊥) → get_or fills2 p 0 ≡ get_or fills p 0
   pub long : length fills2 ≡ length fills
 
-pub record Scattering (claims : List ℕ) (m k : ℕ) (fill fills fills2 : List ℕ) (i : ℕ) : Type 0 where
-  pub done : Scattered claims m fill fills fills2 i
-  pub low : i ≤ k
+pub record Scattering (claims : List ℕ) (m : ℕ) (portions : List Portion) (fills fills2 : List ℕ) (i : ℕ) : Type 0 where
+  pub done : Scattered claims m portions fills fills2 i
+  pub low : i ≤ length portions
 
 -- ---- our own fills
 

@@ -1,12 +1,12 @@
 -- The bytes of our own sheet: "A sheet line: reason, filled, cancelled."
-use Rattle.std.specs.Prelude.{◌≡◌, List, [], ◌∷◌, map, ℕ, ◌+◌, ◌-◌, ◌*◌, ◌<◌, ◌≤◌, get_or, length, take}
+use Rattle.std.specs.Prelude.{◌≡◌, List, [], ◌∷◌, map, ℕ, ◌+◌, ◌-◌, ◌*◌, ◌<◌, ◌≤◌, get_or, length, take, Result}
 use Rattle.rules.specs.Basics.{below}
 use Rattle.rules.specs.Number.{largest, bytes_of, bytes_of_all}
 use Rattle.rules.specs.Journal.{Journal}
 use Rattle.rules.specs.OwnSheet.{SheetLine, sheet_bytes, own_sheet}
 use Rattle.rules.specs.Writing.{into, lent_after}
 use Rattle.text.specs.Lent.{Wrote, as_answer, counted}
-use Rattle.text.specs.declared.Written.{Written}
+use Rattle.rows.specs.declared.Refusal.{Refusal}
 use Rattle.several.specs.Numbers.{Small}
 use Rattle.claims.specs.Books.{Books}
 
@@ -59,6 +59,6 @@ pub record Putting (before claims fills : List ℕ) (lines : ℕ) (after : List 
 
 -- ---- our own sheet, or 9
 
-pub record OwnWritten (claims trades : List ℕ) (traded lines : ℕ) (before : List ℕ) (r : Written) (after : List ℕ) : Type 0 where
+pub record OwnWritten (claims trades : List ℕ) (traded lines : ℕ) (before : List ℕ) (r : Result ℕ Refusal) (after : List ℕ) : Type 0 where
   pub so : (j : Journal) → Books j trades claims traded lines
       → (as_answer r ≡ counted (into (length before) (own_sheet j))) × (after ≡ lent_after (into (length before) (own_sheet j)) before)

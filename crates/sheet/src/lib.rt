@@ -1,7 +1,7 @@
 // Our own sheet, out of the tables that the walk of a journal leaves.
 #![tactic(auto)]
 
-ghost use Rattle.std.specs.Prelude.{◌≡◌, ◌-◌, ◌*◌, ◌≤◌, ◌<◌};
+ghost use Rattle.std.specs.Prelude.{◌≡◌, ◌-◌, ◌*◌, ◌≤◌, ◌<◌, length};
 ghost use Rattle.rules.specs.Limits.{most_trades, most_satisfaction_orders};
 ghost use Rattle.text.specs.Lent.{Takes};
 ghost use Rattle.claims.specs.Lines.{many_of, Filing, Findable};
@@ -10,27 +10,24 @@ ghost use Rattle.sheet.specs.Written.{three_at, bytes_to, PutsNumber, PutsLine, 
 
 use claims::Line;
 use counted::SatisfactionOrder;
+use fairness::Portion;
 use rows::{Refusal, TradeLines};
-use text::Written;
 use trades::Trades;
 
-// Of trade m's first k lines each gets its fill, at the word of its number.
+// Of trade m's first lines each gets its fill, at the word of its number.
 fn scatter(
     claims: &[u32; Line::WORDS],
     m: usize,
-    k: usize,
-    fill: &[u32; TradeLines::MOST],
+    portions: &[Portion],
     fills: &mut [u32; SatisfactionOrder::MOST],
 )
     requires findable { Findable claims.now m }
-    requires k_bound { k ≤ many_of claims.now m }
-    ensures { Scattered claims.now m fill.now fills.old fills.new k }
+    requires portions_bound { length portions.now ≤ many_of claims.now m }
+    ensures { Scattered claims.now m portions.now fills.old fills.new (length portions.now) }
 {
-    let mut i: usize = 0;
-    while i < k {
+    for i in 0..portions.len() {
         let line = claims::line_of(claims, m, i);
-        fills[line] = fill[i];
-        i += 1;
+        fills[line] = portions[i].filled;
     }
 }
 
@@ -44,13 +41,12 @@ fn fill_trade(
     requires { Findable claims.now m }
     ensures { FillsTrade claims.now trades.now m fills.old fills.new }
 {
-    let mut claim = [0u32; TradeLines::MOST];
-    let mut customers = [0u32; TradeLines::MOST];
-    let mut fill = [0u32; TradeLines::MOST];
-    let k = claims::gather(claims, m, &mut claim, &mut customers);
+    let mut portions = [Portion::NOTHING; TradeLines::MOST];
+    let k = claims::gather(claims, m, &mut portions);
     let due = claims::due_total(claims, trades, m);
-    sharing::share_out(&claim, &customers, k, rows::wide(due), &mut fill);
-    scatter(claims, m, k, &fill, fills);
+    let its = &mut portions[..k];
+    sharing::share_out(its, u64::from(due));
+    scatter(claims, m, its, fills);
 }
 
 // What each line is filled in our own sheet.
@@ -64,24 +60,12 @@ pub fn own_fills(
     requires { (traded ≤ most_trades) × Filing claims.now lines }
     ensures { OwnFills claims.now trades.now traded lines fills.old fills.new }
 {
-    let mut m: usize = 0;
-    while m < traded {
+    for m in 0..traded {
         fill_trade(claims, trades, m, fills);
-        m += 1;
     }
 }
 
-// "The rest of the order is cancelled."
-fn cancelled(size: u32, filled: u32) -> u32
-    ensures { result ≡ size - filled }
-{
-    if size <= filled {
-        return 0;
-    }
-    size - filled
-}
-
-// "A sheet line: reason, filled, cancelled."
+// "A sheet line: reason, filled, cancelled." And "The rest of the order is cancelled."
 pub fn own_line(
     claims: &[u32; Line::WORDS],
     fills: &[u32; SatisfactionOrder::MOST],
@@ -91,8 +75,8 @@ pub fn own_line(
     ensures { result ≡ three_at claims.now fills.now i }
 {
     let filled = fills[i];
-    let rest = cancelled(claims[i * 8 + Line::SIZE], filled);
-    [claims[i * 8 + Line::REASON], filled, rest]
+    let cancelled = claims[i * 8 + Line::SIZE].saturating_sub(filled);
+    [claims[i * 8 + Line::REASON], filled, cancelled]
 }
 
 // How many bytes the lines take.
@@ -105,23 +89,18 @@ fn sheet_width(
     ensures { Takes (bytes_to claims.now fills.now lines) (lines * 12) result }
 {
     let mut sum: usize = 0;
-    let mut i: usize = 0;
-    while i < lines {
+    for i in 0..lines {
         let line = own_line(claims, fills, i);
         sum += several::widths(&line, 3);
-        i += 1;
     }
     sum
 }
 
-// Every number of an accepted journal's lines can be stored.
+// Every number of an accepted journal's lines can be stored: a promise of what is true then, where `several` asks for it beforehand.
 fn put_number(out: &mut [u8], at: usize, x: u32) -> usize
     ensures { PutsNumber out.old at x out.new result }
 {
-    let Written::To(next) = number::write_at(out, at, x) else {
-        return at;
-    };
-    next
+    number::write_at(out, at, x).unwrap_or(at)
 }
 
 fn put_line(out: &mut [u8], at: usize, line: [u32; 3]) -> usize
@@ -143,11 +122,8 @@ fn put_lines(
     ensures { PutsLines out.old claims.now fills.now lines out.new result }
 {
     let mut at: usize = 0;
-    let mut i: usize = 0;
-    while i < lines {
-        let line = own_line(claims, fills, i);
-        at = put_line(out, at, line);
-        i += 1;
+    for i in 0..lines {
+        at = put_line(out, at, own_line(claims, fills, i));
     }
     at
 }
@@ -159,14 +135,14 @@ pub fn write_own(
     traded: usize,
     lines: usize,
     out: &mut [u8],
-) -> Written
+) -> Result<usize, Refusal>
     requires { (traded ≤ most_trades) × Filing claims.now lines }
     ensures { OwnWritten claims.now trades.now traded lines out.old result out.new }
 {
     let mut fills = [0u32; SatisfactionOrder::MOST];
     own_fills(claims, trades, traded, lines, &mut fills);
     if out.len() < sheet_width(claims, &fills, lines) {
-        return Written::Refused(Refusal::OUTPUT_TOO_SHORT);
+        return Err(Refusal::OutputTooShort);
     }
-    Written::To(put_lines(out, claims, &fills, lines))
+    Ok(put_lines(out, claims, &fills, lines))
 }

@@ -1,22 +1,23 @@
 -- Laws of writing into lent memory: nothing, one byte, a text, one thing after another; and from there to the definitions of all or nothing.
-use Prim.Native.Nat.{ℕ, ◌+◌, ◌^◌, ◌≤◌, ◌<◌}
-use mir.Val.{Fits}
-use mir.Syntax.{w64}
+use Prim.Native.Nat.{ℕ, ◌+◌, ◌-◌, ◌≤◌, ◌<◌}
 use native.Mathlib.Omega.{arith}
 use native.Mathlib.Numerals.{add-one}
 use native.Mathlib.Nat.{add-zero, zero-add}
-use mathlib.Core.Path.{◌≡◌, sym, ap, subst, ◌∙◌}
+use mathlib.Core.Path.{◌≡◌, refl, sym, ap, ◌∙◌}
 use mathlib.Core.List.{List, [], ◌∷◌, ◌++◌, append_assoc, append-nil}
-use lib.ListN.{length, get_or, take, drop, set, length-append, length-drop, length-set, take-append-drop}
-use lib.Seq.{take_at, drop_at, drop-drop, length-take-le, set_split, append_snoc, take-suc, take_all}
+use lib.ListN.{length, take, drop, set, length-append, length-drop, length-set, take-append-drop}
+use lib.Seq.{take_at, drop_at, drop-drop, length-take-le, set_split, append_snoc}
 use borrow.Author.Tests.{le-leb, lt-leb}
-use Rattle.rules.specs.Basics.{ok, refused, ◌>>=◌}
+use borrow.Rule.Slice.PartMut.{put_mid}
+use Rattle.std.specs.Prelude.{Result, Ok, Err}
+use Rattle.rules.specs.Basics.{Answer, ok, refused, ◌>>=◌}
 use Rattle.rules.specs.Refusals.{output_too_short}
 use Rattle.rules.specs.Writing.{no_place, into, lent_after}
 use Rattle.rules.proofs.Answers.{demand_met, demand_missed}
 use Rattle.text.specs.Lent.{lent_with, Wrote, as_answer, counted, Writes}
-use Rattle.text.specs.declared.Written.{Written}
-use Rattle.text.specs.declared.Written.TheVariants.{To, Refused}
+use Rattle.rows.specs.declared.Refusal.{Refusal}
+use Rattle.rows.specs.declared.Refusal.TheVariants.{OutputTooShort}
+use Rattle.rows.proofs.Refusals.{same_number_same_refusal}
 
 -- ---- bytes at a place, and more bytes after them
 
@@ -91,41 +92,14 @@ module _ (whole a b s : List ℕ) (at : ℕ) (room : at + length whole ≤ lengt
     pub both_wrote : (e : List ℕ) (q : ℕ) → Wrote d p b e q → Wrote s at whole e q
     both_wrote e q v = rw parts (wrote_then s at a d p b e q w v)
 
--- ---- a text: i bytes of it are written
+-- ---- a text
 
-pub record Copied (s text : List ℕ) (at : ℕ) (out : List ℕ) (i : ℕ) : Type 0 where
-  pub below : i ≤ length text
-  pub room : at + length text ≤ length s
-  pub wrote : Wrote s at (take i text) out (at + i)
-
-pub copied_none : (s text : List ℕ) (at : ℕ) → at + length text ≤ length s → Copied s text at s 0
-copied_none s text at h =
-    let w : Wrote s at [] s at = wrote_none s at (omega arith) in
-    record { below = omega arith; room = h; wrote = rw add-zero w }
-
-module _ (s text : List ℕ) (at : ℕ) (out : List ℕ) (i : ℕ) (w : Copied s text at out i) where
-  pub copied_length : length out ≡ length s
-  copied_length = wrote_length s at _ out (at + i) w.wrote
-
-  pub copied_all : length text ≤ i → Wrote s at text out (at + i)
-  copied_all h = subst (λ t. Wrote s at t out (at + i)) (take_all i text h) w.wrote
-
-  module _ (h : i < length text) where
-    pub copied_fits : length s < 2 ^ 64 → Fits w64 (at + i)
-    copied_fits f = record { fits = omega (arith, w.room) }
-
-    pub copied_index : at + i < length out
-    copied_index = omega (arith, w.room, copied_length)
-
-    pub copied_more : Copied s text at (set out (at + i) (get_or text i 0)) (i + 1)
-    copied_more =
-        let b = get_or text i 0 in
-        let one = wrote_one out (at + i) b copied_index in
-        let both = wrote_then s at (take i text) out (at + i) (b ∷ []) (set out (at + i) b) (at + i + 1) w.wrote one in
-        let p : at + (i + 1) ≡ at + i + 1 = omega arith in
-        record { below = omega arith; room = w.room; wrote = rw (p, add-one i, take-suc text i 0 h) both }
-
-pub ruleset copy_laws = (copied_none, copied_length, copied_all, copied_fits, copied_index, copied_more)
+-- stored by the library into the part of the lent memory that it takes
+pub text_put : (s text d : List ℕ) (at : ℕ) → at + length text ≤ length s → d ≡ text → Wrote s at text (put_mid at (at + length text - at) s d) (at + length text)
+unfolding lent_with
+text_put s text d at h e =
+    let k : at + length text - at ≡ length text = omega arith in
+    record { room = h; lent = rw (k, e, drop-drop (length text) at s) (sym (append_assoc (take at s) text (drop (at + length text) s))); place = refl }
 
 -- ---- all or nothing
 
@@ -143,7 +117,7 @@ unfolding lent_with lent_after
 wrote_is_lent_after s bytes d p w = w.lent ∙ rw zero-add
 
 module _ (s bytes : List ℕ) where
-  pub writes_short : (n : ℕ) → n ≡ length bytes → length s < n → Writes s bytes (Refused 9) s
+  pub writes_short : (n : ℕ) → n ≡ length bytes → length s < n → Writes s bytes (Err OutputTooShort) s
   unfolding lent_after ◌>>=◌
   writes_short n e h =
       let a = no_room_is_refused (length s) bytes (omega arith) in
@@ -152,7 +126,7 @@ module _ (s bytes : List ℕ) where
   pub writes_room : (n : ℕ) → n ≡ length bytes → n ≤ length s → 0 + length bytes ≤ length s
   writes_room n e h = omega arith
 
-  pub writes_all : (d : List ℕ) (p : ℕ) → Wrote s 0 bytes d p → Writes s bytes (To p) d
+  pub writes_all : (d : List ℕ) (p : ℕ) → Wrote s 0 bytes d p → Writes s bytes (Ok p) d
   unfolding ◌>>=◌
   writes_all d p w =
       let r : length bytes ≤ length s = omega (arith, w.room) in
@@ -162,12 +136,15 @@ module _ (s bytes : List ℕ) where
 
 pub ruleset writes_laws = (writes_short, writes_room, writes_all)
 
-pub same_answer_same_written : (a b : Written) → as_answer a ≡ as_answer b → a ≡ b
-same_answer_same_written (To m) (To n) e = cc
-same_answer_same_written (Refused m) (Refused n) e = cc
-same_answer_same_written (To m) (Refused n) e = cc
-same_answer_same_written (Refused m) (To n) e = cc
+refused_numbers : {A : Type 0} {m n p q : ℕ} → ◌≡◌ {A = Answer A} (refused m p) (refused n q) → m ≡ n
+refused_numbers e = cc
+
+pub same_answer_same_written : (a b : Result ℕ Refusal) → as_answer a ≡ as_answer b → a ≡ b
+same_answer_same_written (Ok m) (Ok n) e = cc
+same_answer_same_written (Err m) (Err n) e = ap Err (same_number_same_refusal m n (refused_numbers e))
+same_answer_same_written (Ok m) (Err n) e = cc
+same_answer_same_written (Err m) (Ok n) e = cc
 
 -- there is one answer, and one lent memory afterwards
-pub writes_settled : (s bytes : List ℕ) (r₁ r₂ : Written) (d₁ d₂ : List ℕ) → Writes s bytes r₁ d₁ → Writes s bytes r₂ d₂ → (r₁ ≡ r₂) × (d₁ ≡ d₂)
+pub writes_settled : (s bytes : List ℕ) (r₁ r₂ : Result ℕ Refusal) (d₁ d₂ : List ℕ) → Writes s bytes r₁ d₁ → Writes s bytes r₂ d₂ → (r₁ ≡ r₂) × (d₁ ≡ d₂)
 writes_settled s bytes r₁ r₂ d₁ d₂ v w = (same_answer_same_written r₁ r₂ (v.answer ∙ sym w.answer), v.lent ∙ sym w.lent)

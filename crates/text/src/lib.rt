@@ -8,13 +8,6 @@ ghost use Rattle.text.specs.Lines.{pair_of, line_of, field_of, head_of, tail_of,
 
 use rows::Refusal;
 
-// What a writer answers: the place after its last byte, or a refusal's number.
-#[derive(Clone, Copy)]
-pub enum Written {
-    To(usize),
-    Refused(u32),
-}
-
 // The letter of a line: what was judged.
 #[derive(Drop)]
 pub struct What;
@@ -35,12 +28,9 @@ pub fn put_text(out: &mut [u8], at: usize, text: &[u8]) -> usize
     requires { at + length text.now ≤ length out.old }
     ensures { Wrote out.old at text.now out.new result }
 {
-    let mut i: usize = 0;
-    while i < text.len() {
-        out[at + i] = text[i];
-        i += 1;
-    }
-    at + i
+    let end = at + text.len();
+    out[at..end].copy_from_slice(text);
+    end
 }
 
 // Most numbers of a day are short: the short widths are looked at first.
@@ -81,7 +71,7 @@ fn width_to_ten(x: u64) -> usize
 pub fn decimal_width(x: u32) -> usize
     ensures { Takes (decimal x) 10 result }
 {
-    width_to_ten(x as u64)
+    width_to_ten(u64::from(x))
 }
 
 pub fn total_width(x: u64) -> usize
@@ -98,8 +88,8 @@ fn put_pair(out: &mut [u8], at: usize, x: u64) -> usize
     requires { (x < 100) × (at + length (pair_of x) ≤ length out.old) }
     ensures { Wrote out.old at (pair_of x) out.new result }
 {
-    out[at] = (48 + x / 10) as u8;
-    out[at + 1] = (48 + x % 10) as u8;
+    out[at] = b'0' + (x / 10) as u8;
+    out[at + 1] = b'0' + (x % 10) as u8;
     at + 2
 }
 
@@ -108,7 +98,7 @@ fn put_short(out: &mut [u8], at: usize, x: u64) -> usize
     ensures { Wrote out.old at (decimal x) out.new result }
 {
     if x < 10 {
-        out[at] = (48 + x) as u8;
+        out[at] = b'0' + x as u8;
         return at + 1;
     }
     put_pair(out, at, x)
@@ -145,7 +135,7 @@ pub fn put_decimal(out: &mut [u8], at: usize, x: u32) -> usize
     requires { at + length (decimal x) ≤ length out.old }
     ensures { Wrote out.old at (decimal x) out.new result }
 {
-    put_total(out, at, x as u64)
+    put_total(out, at, u64::from(x))
 }
 
 fn put_field(out: &mut [u8], at: usize, x: u32) -> usize
@@ -239,11 +229,12 @@ pub fn refusal_width(no: u32, place: usize) -> usize
     decimal_width(no) + total_width(place as u64) + 13
 }
 
-pub fn write_refusal(out: &mut [u8], no: u32, place: usize) -> Written
+// What is named write answers the place after its last byte.
+pub fn write_refusal(out: &mut [u8], no: u32, place: usize) -> Result<usize, Refusal>
     ensures { Writes out.old (refusal_text no place) result out.new }
 {
     if out.len() < refusal_width(no, place) {
-        return Written::Refused(Refusal::OUTPUT_TOO_SHORT);
+        return Err(Refusal::OutputTooShort);
     }
-    Written::To(put_refusal(out, 0, no, place))
+    Ok(put_refusal(out, 0, no, place))
 }

@@ -1,1 +1,2 @@
 pub mod TradeVerdicts
+pub mod Tests

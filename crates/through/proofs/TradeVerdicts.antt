@@ -1,18 +1,20 @@
 -- Trades against the table of quotes: the exchanges traded through, counted one by one, and blocks.
-use mathlib.Core.Path.{◌≡◌, refl, sym, ◌∙◌}
-use mathlib.Core.Bool.{Bool, true, false, not, ◌||◌, and-false, and-true}
+use mathlib.Core.Path.{◌≡◌, refl, sym, ap, ◌∙◌}
+use mathlib.Core.Bool.{Bool, true, false, not, ◌&&◌, ◌||◌, and-false, and-true}
 use mathlib.Core.List.{List, [], ◌∷◌, ◌++◌, append-nil}
-use Prim.Native.Nat.{ℕ, suc, ◌+◌, ◌*◌, ◌<◌, ◌≤◌}
+use Prim.Native.Nat.{ℕ, zero, suc, ◌+◌, ◌*◌, ◌<◌, ◌≤◌}
 use native.Mathlib.Omega.{arith}
 use native.Mathlib.Numerals.{add-one}
-use mir.Val.{Fits}
-use mir.Syntax.{w64}
-use lib.Dec.{eqb, leb}
-use lib.ListN.{get_or, length, length-append}
-use borrow.Author.Tests.{eq-eqb, ne_eqb, eqb-true, eqb-false, leb-true, le-leb, lt-leb, not-true, not-false}
-use Rattle.std.specs.Prelude.{◌==◌}
-use Rattle.rules.specs.Basics.{first_of, keep}
+use lib.Dec.{eqb}
+use lib.ListN.{length, length-append}
+use borrow.Author.Tests.{not-true, not-false}
+use Rattle.std.specs.Prelude.{count_by, filter, ◌==◌, if◌then◌else◌}
+use Rattle.std.specs.List.{range_with_len}
+use Rattle.std.proofs.lemmas.List.FromFn.{length-range_with_len}
+use Rattle.std.proofs.lemmas.List.Sums.{sum_by-append, length-filter, count_by-le-length}
+use Rattle.rules.specs.Basics.{◌at_least◌, keep}
 use Rattle.rules.specs.Limits.{most_exchanges}
+use Rattle.rules.specs.Header.{Header}
 use Rattle.rules.specs.Record as paper
 use Rattle.rules.specs.Journal.{History}
 use Rattle.rules.specs.Prices.{standing, up_to, everyone, away, best_bid, best_offer}
@@ -20,159 +22,103 @@ use Rattle.rules.specs.Verdicts.{through, side_through, throughs, is_block}
 use Rattle.rules.proofs.Tests.{by_test, keep_more}
 use Rattle.rows.specs.Rows.{Reads, TradeOk, RecOk}
 use Rattle.rows.specs.declared.Rec.{Rec}
-use Rattle.rows.proofs.Rows.{words_product_fits}
 use Rattle.quotes.specs.Tables.{many_series, Quoted}
 use Rattle.prices.specs.Prices.{above_of, bid_of, offer_of, PlaceIs, BidIs, OfferIs}
-use Rattle.through.specs.Trades.{SameTrade, through_of, counts_of, form_of, TradeIs, CountIs, BlockIs, TradePlaced, BlockFound}
+use Rattle.through.specs.Trades.{SameTrade, through_of, through_in, form_of, large_of, TradeIs, CountIs, BlockIs, TradePlaced, BlockFound}
 use Rattle.through.specs.declared.Trade.{Trade}
 use Rattle.prices.proofs.BestPrices.{others, bid_shown, offer_shown}
 
 -- ---- one exchange
-
-module _ (bid offer price : ℕ) (above : Bool) (ea : above ≡ above_of bid price) where
-  pub through_bid : above ≡ true → 1 ≡ through_of bid offer price
-  unfolding through_of first_of above_of
-  through_bid z = rw (← ea, z)
-
-  module _ (z : above ≡ false) (below : Bool) (eb : below ≡ above_of price offer) where
-    pub through_offer : below ≡ true → 2 ≡ through_of bid offer price
-    unfolding through_of first_of above_of
-    through_offer y = rw (← ea, z, ← eb, y)
-
-    pub through_not : below ≡ false → 0 ≡ through_of bid offer price
-    unfolding through_of first_of above_of
-    through_not y = rw (← ea, z, ← eb, y)
 
 -- the code's side, of a quote's two prices, is the paper's
 pub through_is : (k : paper.Quote) (price : ℕ) → through_of k.bid k.offer price ≡ through k price
 unfolding through through_of
 through_is k price = refl
 
-module _ (home exchange side : ℕ) where
-  pub counts_home : exchange ≡ home → 0 ≡ counts_of home exchange side
-  unfolding counts_of
-  counts_home e = rw (eq-eqb _ _ e)
-
-  pub counts_none : (exchange ≡ home → ⊥) → side ≡ 0 → 0 ≡ counts_of home exchange side
-  unfolding counts_of
-  counts_none n e = rw (ne_eqb _ _ n, eq-eqb _ _ e)
-
-  pub counts_one : (exchange ≡ home → ⊥) → (side ≡ 0 → ⊥) → 1 ≡ counts_of home exchange side
-  unfolding counts_of
-  counts_one n e = rw (ne_eqb _ _ n, ne_eqb _ _ e)
-
--- ---- the loop: the count c of the away exchanges traded through, up to y
-
-pub record Counted (quotes : List ℕ) (exchanges home : ℕ) (trade : Trade) (y c : ℕ) : Type 0 where
-  pub few : y ≤ exchanges
-  pub small : c ≤ y
-  pub so : (past : History) → Quoted past quotes
-      → c ≡ length (keep (λ exchange. not (through (standing exchange trade.series past) trade.price == 0)) (keep (others home) (up_to y)))
+-- ---- the exchanges counted, row by row
 
 -- one more exchange
 length_more : (f : ℕ → ℕ) (home x : ℕ) (xs : List ℕ)
-    → length (keep (λ y. not (f y == 0)) (keep (others home) (xs ++ (x ∷ [])))) ≡ length (keep (λ y. not (f y == 0)) (keep (others home) xs)) + counts_of home x (f x)
-unfolding counts_of keep
+    → length (keep (λ y. not (f y == 0)) (keep (others home) (xs ++ (x ∷ []))))
+    ≡ length (keep (λ y. not (f y == 0)) (keep (others home) xs)) + (if others home x && not (f x == 0) then 1 else 0)
+unfolding keep
 length_more f home x xs =
     by_test (eqb x home)
     (λ e. rw (keep_more (others home) xs x, e, append-nil) (omega arith))
     (λ e. rw (keep_more (others home) xs x, e, keep_more (λ y. not (f y == 0)) (keep (others home) xs) x, length-append)
     (by_test (eqb (f x) 0) (λ z. rw z (omega arith)) (λ z. rw z (omega arith))))
 
-module _ (quotes : List ℕ) (exchanges home : ℕ) (trade : Trade) where
-  pub counted_none : Counted quotes exchanges home trade 0 0
+range_more : (a n j : ℕ) → a + n ≡ j → range_with_len a (suc n) ≡ range_with_len a n ++ (j ∷ [])
+range_more a zero j e = let k : a ≡ j = omega arith in rw k
+range_more a (suc n) j e = ap (λ l. a ∷ l) (range_more (a + 1) n j (omega arith))
+
+count_more : (p : ℕ → Bool) (n : ℕ) → count_by p (range_with_len 0 (suc n)) ≡ count_by p (range_with_len 0 n) + (if p n then 1 else 0)
+count_more p n = rw (range_more 0 n n (omega arith), sum_by-append (λ x. if p x then 1 else 0)) (omega arith)
+
+module _ (quotes : List ℕ) (home : ℕ) (trade : Trade) (low : trade.series < many_series) (past : History) (held : Quoted past quotes) where
+  -- the test of one exchange is the paper's
+  test_is : (y : ℕ) → y < most_exchanges
+      → through_in quotes home trade y ≡ (others home (suc y) && not (through (standing (suc y) trade.series past) trade.price == 0))
+  unfolding through through_of bid_of offer_of
+  test_is y few =
+      let p : PlaceIs y trade.series ((y * many_series + trade.series) * 8) = record { is = refl; small = omega arith } in
+      rw (add-one y, bid_shown quotes past held y trade.series _ few low p, offer_shown quotes past held y trade.series _ few low p)
+
+  counted : (n : ℕ) → n ≤ most_exchanges
+      → length (keep (λ exchange. not (through (standing exchange trade.series past) trade.price == 0)) (keep (others home) (up_to n)))
+      ≡ count_by (through_in quotes home trade) (range_with_len 0 n)
   unfolding up_to keep
-  counted_none = record { few = omega arith; small = omega arith; so = λ past held. refl }
+  counted zero few = refl
+  counted (suc n) few =
+      length_more (λ exchange. through (standing exchange trade.series past) trade.price) home (suc n) (up_to n)
+      ∙ rw (counted n (omega arith), ← test_is n (omega arith)) (sym (count_more (through_in quotes home trade) n))
 
-  module _ (y c : ℕ) (a : Counted quotes exchanges home trade y c) where
-    pub counted_all : exchanges ≤ y → CountIs quotes exchanges home trade c
-    unfolding throughs side_through away everyone
-    counted_all l =
-        record {
-          so = λ h past k en eh same held.
-              let z : h.exchanges ≡ y = omega (arith, a.few) in simp (z, eh, same.series, same.price) (a.so past held);
-          few = omega (arith, a.small, a.few);
-        }
-
-    module _ (l : y < exchanges) (pre : (exchanges ≤ most_exchanges) × (trade.series < many_series)) (k : ℕ) (p : PlaceIs y trade.series k)
-        (side : ℕ) (es : side ≡ through_of (get_or quotes (k + 2) 0) (get_or quotes (k + 5) 0) trade.price) (d : ℕ) (ed : (d ≡ counts_of home (y + 1) side) × (d ≤ 1)) where
-      side_is : (past : History) → Quoted past quotes → side ≡ through (standing (suc y) trade.series past) trade.price
-      unfolding through through_of bid_of offer_of
-      side_is past held =
-          rw (← bid_shown quotes past held y trade.series k (omega arith) pre.1 p, ← offer_shown quotes past held y trade.series k (omega arith) pre.1 p) es
-
-      pub counted_more : Counted quotes exchanges home trade (y + 1) (c + d)
-      unfolding up_to
-      counted_more =
-          record {
-            few = omega arith;
-            small = omega (arith, a.small);
-            so = λ past held.
-                rw (ed.0, add-one y, side_is past held, a.so past held)
-                (sym (length_more (λ exchange. through (standing exchange trade.series past) trade.price) home (suc y) (up_to y)));
-          }
-
-      pub counted_fits : Fits w64 (c + d)
-      counted_fits = record { fits = omega (arith, a.small, a.few) }
+module _ (quotes : List ℕ) (exchanges home : ℕ) (trade : Trade) (few : exchanges ≤ most_exchanges) (low : trade.series < many_series) where
+  pub count_found : (c : ℕ) → c ≡ length (filter (through_in quotes home trade) (range_with_len 0 exchanges)) → CountIs quotes exchanges home trade c
+  unfolding throughs side_through away everyone
+  count_found c e =
+      let rows = range_with_len 0 exchanges in
+      let by : c ≡ count_by (through_in quotes home trade) rows = e ∙ length-filter (through_in quotes home trade) rows in
+      record {
+        so = λ h past k en eh same held. simp (en, eh, same.series, same.price) (by ∙ sym (counted quotes home trade low past held exchanges few));
+        few = omega (arith, by, count_by-le-length (through_in quotes home trade) rows, length-range_with_len 0 exchanges);
+      }
 
 -- ---- blocks
 
-pub product_is : (a b x y : ℕ) → (x ≡ a) × (x < 4294967296) → (y ≡ b) × (y < 4294967296) → x * y ≡ a * b
-product_is a b x y p q = rw (p.0, q.0)
+-- the paper asks for the form last, the code before the prices
+form_first : (size value prices form : Bool) → (size && value && prices && form) ≡ ((size && value && form) && prices)
+form_first false value prices form = refl
+form_first true false prices form = refl
+form_first true true true form = sym (and-true form)
+form_first true true false form = sym (and-false form)
 
-pub form_cross : (f : ℕ) → f ≡ 1 → true ≡ form_of f
-unfolding form_of
-form_cross f e = rw e
+block_is : (h : Header) (past : History) (trade : Trade) (k : paper.Trade) → SameTrade trade k
+    → is_block h past k
+    ≡ (large_of trade && (above_of (best_bid h trade.series past) trade.price || above_of trade.price (best_offer h trade.series past)))
+unfolding is_block form_of above_of
+block_is h past trade k same =
+    rw (same.size, same.price, same.series, same.form)
+    (form_first (trade.size at_least 500) (trade.price * trade.size at_least 150_000)
+    (above_of (best_bid h trade.series past) trade.price || above_of trade.price (best_offer h trade.series past)) (form_of trade.form))
 
-pub form_other : (f : ℕ) → (f ≡ 1 → ⊥) → eqb f 2 ≡ form_of f
-unfolding form_of
-form_other f ne =
-    by_test (eqb f 2)
-    (λ z. rw (eqb-true f 2 z))
-    (λ z. let off = eqb-false f 2 z in
-    by_test (leb 1 f) (λ u. rw (z, u) (sym (lt-leb f 2 (omega (arith, leb-true 1 f u))))) (λ u. rw (z, u)))
+module _ (quotes : List ℕ) (exchanges : ℕ) (trade : Trade) (g : Bool) (eg : g ≡ large_of trade) where
+  pub block_small : not g ≡ true → BlockIs quotes exchanges trade false
+  block_small y = record { so = λ h past k en same held. rw (block_is h past trade k same, ← eg, not-true g y) }
 
-module _ (quotes : List ℕ) (exchanges : ℕ) (trade : Trade) where
-  pub block_small : trade.size < 500 → BlockIs quotes exchanges trade false
-  unfolding is_block
-  block_small l = record { so = λ h past k en same held. rw (same.size, lt-leb _ _ l) }
+  module _ (large : not g ≡ false) (bid : ℕ) (eb : BidIs quotes exchanges trade.series bid) (b : Bool) (below : b ≡ above_of bid trade.price) where
+    pub block_below : b ≡ true → BlockIs quotes exchanges trade true
+    block_below y =
+        record {
+          so = λ h past k en same held. rw (block_is h past trade k same, ← eg, not-false g large, ← eb.so h past en held, ← below, y);
+        }
 
-  module _ (big : 500 ≤ trade.size) (v : ℕ) (ev : v ≡ trade.price * trade.size) where
-    pub block_cheap : v < 150000 → BlockIs quotes exchanges trade false
-    unfolding is_block
-    block_cheap l =
-        record { so = λ h past k en same held. rw (same.size, same.price, ← ev, le-leb _ _ big, lt-leb _ _ l) }
-
-    module _ (dear : 150000 ≤ v) (g : Bool) (eg : g ≡ form_of trade.form) where
-      pub block_formless : not g ≡ true → BlockIs quotes exchanges trade false
-      unfolding is_block form_of above_of
-      block_formless y =
-          record {
-            so = λ h past k en same held.
-                let w : g ≡ false = not-true g y in
-                rw (same.size, same.price, same.form, ← eg, w, ← ev, le-leb _ _ big, le-leb _ _ dear)
-                (sym (and-false (above_of (best_bid h k.series past) trade.price || above_of trade.price (best_offer h k.series past))));
-          }
-
-      module _ (formed : not g ≡ false) (bb : ℕ) (eb : BidIs quotes exchanges trade.series bb) (b : Bool) (below : b ≡ above_of bb trade.price) where
-        pub block_below : b ≡ true → BlockIs quotes exchanges trade true
-        unfolding is_block form_of above_of
-        block_below y =
-            record {
-              so = λ h past k en same held.
-                  let w : g ≡ true = not-false g formed in
-                  rw (same.size, same.price, same.series, same.form, ← eg, w, ← ev, le-leb _ _ big, le-leb _ _ dear, ← eb.so h past en held, ← below, y);
-            }
-
-        pub block_above : b ≡ false → (bo : ℕ) → OfferIs quotes exchanges trade.series bo → (r : Bool) → r ≡ above_of trade.price bo → BlockIs quotes exchanges trade r
-        unfolding is_block form_of above_of
-        block_above y bo eo r er =
-            record {
-              so = λ h past k en same held.
-                  let w : g ≡ true = not-false g formed in
-                  rw (same.size, same.price, same.series, same.form, ← eg, w, ← ev, le-leb _ _ big, le-leb _ _ dear, ← eb.so h past en held, ← eo.so h past en held, ← below, y, ← er)
-                  (sym (and-true r));
-            }
+    pub block_above : b ≡ false → (offer : ℕ) → OfferIs quotes exchanges trade.series offer → (r : Bool) → r ≡ above_of trade.price offer → BlockIs quotes exchanges trade r
+    block_above y offer eo r er =
+        record {
+          so = λ h past k en same held.
+              rw (block_is h past trade k same, ← eg, not-false g large, ← eb.so h past en held, ← eo.so h past en held, ← below, y, ← er);
+        }
 
 -- ---- a record of any kind
 
@@ -215,4 +161,4 @@ module _ (quotes : List ℕ) (exchanges : ℕ) (r : Rec) where
   pub block_found : (b : Bool) (trade : Trade) → BlockIs quotes exchanges trade b → TradeIs r trade → BlockFound quotes exchanges r b
   block_found b trade block is = record { so = λ h e past en reads held k. block.so h past (paper.trade e) en (trade_is r e reads trade is) held }
 
-pub ruleset trade_laws = (through_bid, through_offer, through_not, counts_home, counts_none, counts_one, counted_none, counted_all, counted_more, counted_fits, words_product_fits, product_is, form_cross, form_other, block_small, block_cheap, block_formless, block_below, block_above, trade_series, block_none, block_found)
+pub ruleset trade_laws = (block_small, block_below, block_above, trade_series, block_none, block_found)

@@ -1,6 +1,6 @@
 -- Trades: what is promised of every history that the table of quotes holds.
-use Rattle.std.specs.Prelude.{◌≡◌, Bool, List, [], ℕ, ◌≤◌, length, if◌then◌else◌, ◌==◌}
-use Rattle.rules.specs.Basics.{within, ◌when◌, ◌¦◌, first_of}
+use Rattle.std.specs.Prelude.{◌≡◌, Bool, not, ◌&&◌, List, [], ℕ, ◌+◌, ◌*◌, ◌≤◌, length, get_or, ◌==◌}
+use Rattle.rules.specs.Basics.{◌at_least◌, within, ◌when◌, ◌¦◌, first_of}
 use Rattle.rules.specs.Limits.{most_exchanges}
 use Rattle.rules.specs.Header.{Header}
 use Rattle.rules.specs.Record as paper
@@ -9,7 +9,7 @@ use Rattle.rules.specs.Prices.{◌is_above◌, ◌is_below◌}
 use Rattle.rules.specs.Verdicts.{the_bid, the_offer, neither, throughs, is_block}
 use Rattle.rows.specs.Rows.{word, Reads, TradeOk}
 use Rattle.rows.specs.declared.Rec.{Rec}
-use Rattle.quotes.specs.Tables.{Quoted}
+use Rattle.quotes.specs.Tables.{many_series, Quoted}
 use Rattle.through.specs.declared.Trade.{Trade}
 
 pub record TradeIs (r : Rec) (trade : Trade) : Type 0 where
@@ -31,12 +31,18 @@ pub record SameTrade (trade : Trade) (k : paper.Trade) : Type 0 where
 unfoldable pub through_of : ℕ → ℕ → ℕ → ℕ
 through_of bid offer price = first_of (the_bid when bid is_above price ¦ the_offer when offer is_below price ¦ [])
 
--- what an exchange adds to the count of those traded through
-unfoldable pub counts_of : ℕ → ℕ → ℕ → ℕ
-counts_of home exchange side = if exchange == home then 0 else if side == neither then 0 else 1
+-- whether the exchange of row y is one other than home that is traded through
+abbrev pub through_in : List ℕ → ℕ → Trade → ℕ → Bool
+through_in quotes home trade y =
+    let k = (y * many_series + trade.series) * 8 in
+    not (y + 1 == home) && not (through_of (get_or quotes (k + 2) 0) (get_or quotes (k + 5) 0) trade.price == neither)
 
 unfoldable pub form_of : ℕ → Bool
 form_of form = within paper.cross_form paper.other_form form
+
+-- what makes a block of a trade, but for its price against the best
+abbrev pub large_of : Trade → Bool
+large_of trade = trade.size at_least 500 && trade.price * trade.size at_least 150_000 && form_of trade.form
 
 -- ---- the answers
 

@@ -4,7 +4,7 @@
 ghost use Rattle.std.specs.Prelude.{◌≡◌, ◌*◌, ◌≤◌, ◌<◌};
 ghost use Rattle.rules.specs.Limits.{most_exchanges};
 ghost use Rattle.quotes.specs.Tables.{many_series};
-ghost use Rattle.through.specs.Trades.{through_of, counts_of, form_of, TradeIs, CountIs, BlockIs, TradePlaced, BlockFound};
+ghost use Rattle.through.specs.Trades.{through_of, through_in, form_of, large_of, TradeIs, CountIs, BlockIs, TradePlaced, BlockFound};
 
 use prices::Side;
 use quotes::{Quote, Quotes};
@@ -34,7 +34,7 @@ pub fn trade_of(r: Rec) -> Trade
 {
     let row = r.row;
     Trade {
-        series: rows::index(row[0]),
+        series: row[0] as usize,
         price: row[1],
         size: row[2],
         form: row[3],
@@ -42,28 +42,31 @@ pub fn trade_of(r: Rec) -> Trade
 }
 
 // "An away exchange is traded through if its bid is above the price or its offer below it."
+#[tactic(auto, unfolding(crate::specs::Trades::through_of, rules::specs::Basics::first_of, prices::specs::Prices::above_of))]
 pub fn through_side(bid: u32, offer: u32, price: u32) -> u32
     ensures { result ≡ through_of bid offer price }
 {
     if prices::is_above(bid, price) {
-        return Side::BID;
+        Side::BID
+    } else if prices::is_above(price, offer) {
+        Side::OFFER
+    } else {
+        Side::NEITHER
     }
-    if prices::is_above(price, offer) {
-        return Side::OFFER;
-    }
-    Side::NEITHER
 }
 
-fn counts(home: usize, exchange: usize, side: u32) -> usize
-    ensures { (result ≡ counts_of home exchange side) × (result ≤ 1) }
+// Whether the exchange of row y is an away exchange that is traded through.
+fn is_through(quotes: &[u32; Quotes::WORDS], home: usize, trade: Trade, y: usize) -> bool
+    requires { (y < most_exchanges) × (trade.series < many_series) }
+    ensures { result ≡ through_in quotes.now home trade y }
 {
-    if exchange == home {
-        return 0;
-    }
-    if side == Side::NEITHER {
-        return 0;
-    }
-    1
+    let k = prices::place(y, trade.series);
+    let side = through_side(
+        quotes[k + Quote::BID],
+        quotes[k + Quote::OFFER],
+        trade.price,
+    );
+    y + 1 != home && side != Side::NEITHER
 }
 
 // How many away exchanges are traded through.
@@ -76,69 +79,54 @@ pub fn count_through(
     requires { (exchanges ≤ most_exchanges) × (trade.series < many_series) }
     ensures { CountIs quotes.now exchanges home trade result }
 {
-    let mut count: usize = 0;
-    let mut y: usize = 0;
-    while y < exchanges {
-        let k = prices::place(y, trade.series);
-        let side = through_side(
-            quotes[k + Quote::BID],
-            quotes[k + Quote::OFFER],
-            trade.price,
-        );
-        count += counts(home, y + 1, side);
-        y += 1;
-    }
-    count
+    (0..exchanges)
+        .filter(|y| is_through(quotes, home, trade, *y))
+        .count()
 }
 
 fn value(price: u32, size: u32) -> u64
     ensures { result ≡ price * size }
 {
-    rows::wide(price) * rows::wide(size)
+    u64::from(price) * u64::from(size)
 }
 
+#[tactic(auto, unfolding(crate::specs::Trades::form_of))]
 fn block_form(form: u32) -> bool
     ensures { result ≡ form_of form }
 {
-    if form == Form::CROSS {
-        return true;
-    }
-    form == Form::OTHER
+    form == Form::CROSS || form == Form::OTHER
 }
 
-// The best prices come last: they take a walk over all exchanges.
+// What can be told of a trade alone. The best prices come last: they take a walk over all exchanges.
+fn is_large(trade: Trade) -> bool
+    ensures { result ≡ large_of trade }
+{
+    trade.size >= Block::LEAST_CONTRACTS
+        && value(trade.price, trade.size) >= Block::LEAST_VALUE
+        && block_form(trade.form)
+}
+
+#[tactic(auto, using(crate::proofs::TradeVerdicts::trade_laws))]
 pub fn is_block(quotes: &[u32; Quotes::WORDS], exchanges: usize, trade: Trade) -> bool
     requires { (exchanges ≤ most_exchanges) × (trade.series < many_series) }
     ensures { BlockIs quotes.now exchanges trade result }
 {
-    if trade.size < Block::LEAST_CONTRACTS {
+    if !is_large(trade) {
         return false;
     }
-    if value(trade.price, trade.size) < Block::LEAST_VALUE {
-        return false;
-    }
-    if !block_form(trade.form) {
-        return false;
-    }
-    if prices::is_above(
-        prices::best_bid(quotes, exchanges, trade.series),
-        trade.price,
-    ) {
-        return true;
-    }
-    prices::is_above(
-        trade.price,
-        prices::best_offer(quotes, exchanges, trade.series),
-    )
+    let bid = prices::best_bid(quotes, exchanges, trade.series);
+    prices::is_above(bid, trade.price)
+        || prices::is_above(
+            trade.price,
+            prices::best_offer(quotes, exchanges, trade.series),
+        )
 }
 
 // Whether a record of any kind is a block trade.
+#[tactic(auto, using(crate::proofs::TradeVerdicts::trade_laws))]
 pub fn found_block(quotes: &[u32; Quotes::WORDS], exchanges: usize, r: Rec) -> bool
     requires { (exchanges ≤ most_exchanges) × TradePlaced r }
     ensures { BlockFound quotes.now exchanges r result }
 {
-    if r.kind != Rec::TRADE {
-        return false;
-    }
-    is_block(quotes, exchanges, trade_of(r))
+    r.kind == Rec::TRADE && is_block(quotes, exchanges, trade_of(r))
 }

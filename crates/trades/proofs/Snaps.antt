@@ -7,7 +7,7 @@ use native.Mathlib.Omega.{arith}
 use lib.Dec.{eqb}
 use lib.ListN.{get_or}
 use borrow.Author.Tests.{eq-eqb, ne_eqb, eqb-true, eqb-false}
-use Rattle.std.specs.Prelude.{if◌then◌else◌, ◌==◌}
+use Rattle.std.specs.Prelude.{if◌then◌else◌, ◌==◌, Option, Some, None}
 use Rattle.rules.specs.Limits.{most_exchanges}
 use Rattle.rules.specs.Journal.{History}
 use Rattle.rules.specs.Prices.{standing}
@@ -17,7 +17,7 @@ use Rattle.rules.proofs.Tests.{by_test}
 use Rattle.rows.specs.Rows.{Put}
 use Rattle.quotes.specs.Tables.{many_series, RowIs, Within}
 use Rattle.through.specs.Trades.{through_of}
-use Rattle.excuses.specs.Excuses.{ExcuserIs}
+use Rattle.excuses.specs.Excuses.{Chains, ExcuserIs}
 use Rattle.excuses.proofs.Look.{had_sent_excuser}
 use Rattle.trades.specs.Trades.{price_on, customers_on, excusing_side, excuser_at, snap, snap_words, ExcuseIs, Snapped, Snaps, Snapping}
 
@@ -28,10 +28,19 @@ module _ (orders : List ℕ) (sent side exchange series now : ℕ) where
   unfolding excuser_at
   excuse_unasked p = record { so = λ past held. rw (eq-eqb side 0 p) }
 
-  pub excuse_asked : (side ≡ 0 → ⊥) → (w : ℕ) → w ≡ excusing_side side → (r : ℕ) → ExcuserIs orders sent exchange series w now r
-      → ExcuseIs orders sent side exchange series now r
-  unfolding excuser_at
-  excuse_asked p w ew r found = record { so = λ past held. found.so past held ∙ rw (ne_eqb side 0 p, ew) }
+  module _ (w : ℕ) (found : Option ℕ) (is : ExcuserIs orders sent exchange series w now found) where
+    pub excuser_small : (links : List ℕ) → Chains orders links sent → (n : ℕ) → found ≡ Some n → n + 1 < 4294967296
+    excuser_small links c n e = let b : n + 1 ≤ sent = rw e at is.known in omega (arith, c.few)
+
+    pub excuse_found : (side ≡ 0 → ⊥) → w ≡ excusing_side side → (n : ℕ) → found ≡ Some n → (r : ℕ) → r ≡ n + 1 → ExcuseIs orders sent side exchange series now r
+    unfolding excuser_at
+    excuse_found p ew n e r er =
+        record { so = λ past held. er ∙ (rw e at (is.so past held)) ∙ rw (ne_eqb side 0 p, ew) }
+
+    pub excuse_none : (side ≡ 0 → ⊥) → w ≡ excusing_side side → found ≡ None → ExcuseIs orders sent side exchange series now 0
+    unfolding excuser_at
+    excuse_none p ew e =
+        record { so = λ past held. (rw e at (is.so past held)) ∙ rw (ne_eqb side 0 p, ew) }
 
 -- reason 2 asks whether there is one
 pub excuser_tells : (side exchange series now : ℕ) (past : History)
@@ -111,4 +120,4 @@ module _ (quotes statuses orders : List ℕ) (sent n series price now : ℕ) (be
           low = omega arith;
         }
 
-pub ruleset snap_laws = (excuse_unasked, excuse_asked, within_row, exchange_kept, none_kept, all_kept, one_more_kept)
+pub ruleset snap_laws = (excuse_unasked, excuser_small, excuse_found, excuse_none, within_row, exchange_kept, none_kept, all_kept, one_more_kept)

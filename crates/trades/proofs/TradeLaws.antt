@@ -1,9 +1,10 @@
 -- What one more record does to the tables of trades.
 use mathlib.Core.Path.{◌≡◌, refl, sym, ap, ◌∙◌}
-use mathlib.Core.Bool.{Bool, true}
+use mathlib.Core.Bool.{Bool, true, false}
 use mathlib.Core.List.{List, [], ◌∷◌}
 use Prim.Native.Nat.{ℕ, ◌+◌, ◌*◌, ◌<◌, ◌≤◌}
 use native.Mathlib.Omega.{arith}
+use mir.Val.{bool_byte}
 use lib.Dec.{eqb}
 use lib.ListN.{get_or, length}
 use borrow.Author.Tests.{eq-eqb, ne_eqb, eqb-true, eqb-false}
@@ -38,6 +39,11 @@ module _ (h : Header) (past : History) (trades shown : List ℕ) (traded : ℕ) 
 
 -- ---- a trade
 
+-- a truth as a word is a bit
+pub bit_from : (b : Bool) (n : ℕ) → n ≡ bool_byte b → n ≡ bit b
+bit_from true n e = e
+bit_from false n e = e
+
 row_is : (r : Rec) (h : Header) (e : Event) (past : History) (b c d : Bool) → Reads e r → b ≡ is_block h past (trade e) → c ≡ capped h past (trade e) → d ≡ closing_begun past
     → (word r 1 ∷ word r 2 ∷ bit b ∷ word r 4 ∷ word r 5 ∷ (r.time + word r 6) ∷ bit c ∷ bit d ∷ []) ≡ trade_row h e past
 unfolding trade_row
@@ -49,12 +55,12 @@ unfolding snap side_through
 side_is past e y = refl
 
 module _ (r : Rec) (home exchanges : ℕ) (sizes : List ℕ) (block closing : Bool) (quotes statuses orders : List ℕ) (sent : ℕ) (trades shown : List ℕ) (n : ℕ) where
-  pub trade_taken : Headed exchanges home → FitsTrades r n → r.kind ≡ trade_kind → (trades2 shown2 : List ℕ) (series : ℕ) → (series ≡ word r 0) × (series < 4294967296)
-      → Snaps quotes statuses orders sent n series (word r 1) r.time shown shown2 exchanges → (large : Bool) → CapIs shown2 n home exchanges sizes (word r 2) large
+  pub trade_taken : Headed exchanges home → FitsTrades r n → r.kind ≡ trade_kind → (trades2 shown2 : List ℕ)
+      → Snaps quotes statuses orders sent n (word r 0) (word r 1) r.time shown shown2 exchanges → (large : Bool) → CapIs shown2 n home exchanges sizes (word r 2) large
       → (b c d : ℕ) → b ≡ bit block → c ≡ bit large → d ≡ bit closing
       → Put trades trades2 (word r 1 ∷ word r 2 ∷ b ∷ word r 4 ∷ word r 5 ∷ (r.time + word r 6) ∷ c ∷ d ∷ []) n 8
       → TradesStep r home exchanges sizes block closing quotes statuses orders sent trades shown n trades2 shown2 (n + 1)
-  trade_taken ok pl kind trades2 shown2 series es k large cis b c d eb ec ed put =
+  trade_taken ok pl kind trades2 shown2 k large cis b c d eb ec ed put =
       record {
         so =
             λ h e past is rd blocks closes qs ss os held.
@@ -64,7 +70,7 @@ module _ (r : Rec) (home exchanges : ℕ) (sizes : List ℕ) (block closing : Bo
             let new_b : before_trade n (e ∷ past) ≡ past = before_trade_new n e past is_t held.numbered in
             let there : (y i : ℕ) → y < h.exchanges → i < snap_words → get_or shown2 ((n * most_exchanges + y) * 8 + i) 0 ≡ get_or (snap_at e past y) i 0 =
             λ y i hy hi. (let hx : y < exchanges = (let z = is.exchanges in omega arith) in
-            rw (es.0, rd.fields 0, rd.fields 1, ← rd.time) at (k.here past qs ss os y i hx hi)) in
+            rw (rd.fields 0, rd.fields 1, ← rd.time) at (k.here past qs ss os y i hx hi)) in
             let sides : SidesAre h past (trade e) shown2 n =
             record { side = λ y hy. there y 0 hy (omega arith) ∙ side_is past e y } in
             let row : (word r 1 ∷ word r 2 ∷ b ∷ word r 4 ∷ word r 5 ∷ (r.time + word r 6) ∷ c ∷ d ∷ []) ≡ trade_row h e past =
@@ -104,8 +110,8 @@ module _ (r : Rec) (n : ℕ) (pl : FitsTrades r n) (kind : r.kind ≡ trade_kind
   pub kept_row_fits : (trades : List ℕ) → length trades ≡ trade_words → n * 8 + 8 ≤ length trades
   kept_row_fits trades long = omega (arith, trade_has_room, long)
 
-  pub series_known : (series : ℕ) → (series ≡ word r 0) × (series < 4294967296) → series < many_series
-  series_known series es = omega (arith, es.0, (pl.trade kind).series)
+  pub series_known : word r 0 < many_series
+  series_known = omega (arith, (pl.trade kind).series)
 
   pub report_fits : r.time + word r 6 < 4294967296
   report_fits = omega (arith, pl.time, (pl.trade kind).delay)

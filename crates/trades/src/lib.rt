@@ -15,7 +15,7 @@ use prices::Side;
 use quotes::{Quote, Quotes, Statuses};
 use rows::{Rec, Seat, Way};
 
-// What is kept of a trade.
+// What is kept of a trade, the words of its row.
 #[derive(Drop)]
 pub struct Kept;
 
@@ -54,7 +54,7 @@ impl Snap {
 
     pub const STATUS: usize = 3;
 
-    // One above the number of the sent order that excuses home, 0 where none does.
+    // One above the number of the sent order that excuses home, 0 where none does: an Option as a word.
     pub const EXCUSER: usize = 4;
 
     // For a clerk, and no verdict looks at it.
@@ -77,22 +77,26 @@ impl Shown {
     pub const WORDS: usize = Trade::MOST * Exchanges::MOST as usize * 8;
 }
 
+#[tactic(auto, using(crate::proofs::Words::word_laws))]
 fn price_on(side: u32, bid: u32, offer: u32) -> u32
     ensures { result ≡ price_on side bid offer }
 {
     if side == Side::BID { bid } else { offer }
 }
 
+#[tactic(auto, using(crate::proofs::Words::word_laws))]
 fn customers_on(side: u32, bids: u32, offers: u32) -> u32
     ensures { result ≡ customers_on side bids offers }
 {
-    if side == Side::NEITHER {
-        return 0;
+    match side {
+        Side::NEITHER => 0,
+        Side::BID => bids,
+        _ => offers,
     }
-    if side == Side::BID { bids } else { offers }
 }
 
 // "sell for a bid, buy for an offer"
+#[tactic(auto, using(crate::proofs::Words::word_laws))]
 fn excusing_side(side: u32) -> u32
     ensures { result ≡ excusing_side side }
 {
@@ -120,15 +124,11 @@ fn excuse(
     if side == Side::NEITHER {
         return 0;
     }
-    excuses::excuser(
-        orders,
-        chains,
-        sent,
-        exchange,
-        series,
-        excusing_side(side),
-        time,
-    )
+    let way = excusing_side(side);
+    match excuses::excuser(orders, chains, sent, exchange, series, way, time) {
+        Some(order) => (order + 1) as u32,
+        None => 0,
+    }
 }
 
 // What is kept of exchange y + 1 at a trade.
@@ -161,7 +161,7 @@ fn snap_row(
         ),
         statuses[y],
         excuse(orders, chains, sent, side, y + 1, series, time),
-        rows::narrow(series),
+        series as u32,
         0,
         0,
     ]
@@ -185,28 +185,21 @@ fn keep_snaps(
     requires chains { Chains orders.now chains.now sent }
     ensures { Snaps quotes.now statuses.now orders.now sent n series price time shown.old shown.new exchanges }
 {
-    let mut y: usize = 0;
-    while y < exchanges {
+    for y in 0..exchanges {
         let row = snap_row(
             quotes, statuses, orders, chains, sent, y, series, price, time,
         );
         rows::put_row(shown, n * 8 + y, row);
-        y += 1;
     }
 }
 
 // Whether an exchange, traded through on a side or not, caps the due total: "larger than the customer firm size (the lesser of
 // home's automatic size and the other's)".
+#[tactic(auto, using(crate::proofs::Words::word_laws))]
 fn caps_trade(exchange: usize, home: usize, side: u32, size: u32, ours: u32, theirs: u32) -> bool
     ensures { result ≡ caps exchange home side size ours theirs }
 {
-    if exchange == home {
-        return false;
-    }
-    if side == Side::NEITHER {
-        return false;
-    }
-    rows::lesser(ours, theirs) < size
+    exchange != home && side != Side::NEITHER && ours.min(theirs) < size
 }
 
 // "If the trade is larger than the customer firm size .. with any exchange traded through, asked or not".
@@ -223,13 +216,11 @@ fn is_capped(
     ensures { CapIs shown.now n home exchanges sizes.now size result }
 {
     let ours = sizes[(home - 1) * 2];
-    let mut y: usize = 0;
-    while y < exchanges {
+    for y in 0..exchanges {
         let side = shown[(n * 8 + y) * 8 + Snap::SIDE];
         if caps_trade(y + 1, home, side, size, ours, sizes[y * 2]) {
             return true;
         }
-        y += 1;
     }
     false
 }
@@ -261,7 +252,7 @@ pub fn keep_trade(
     let sent = counts.orders;
     let row = r.row;
     let time = r.time;
-    let series = rows::index(row[0]);
+    let series = row[0] as usize;
     keep_snaps(
         shown,
         n,
@@ -275,9 +266,9 @@ pub fn keep_trade(
         row[1],
         time,
     );
-    let capped = rows::bit_of(is_capped(shown, n, seat.home, seat.exchanges, sizes, row[2]));
-    let found = rows::bit_of(block);
-    let begun = rows::bit_of(counts.closing);
+    let capped = u32::from(is_capped(shown, n, seat.home, seat.exchanges, sizes, row[2]));
+    let found = u32::from(block);
+    let begun = u32::from(counts.closing);
     let report = time + row[6];
     let kept = [row[1], row[2], found, row[4], row[5], report, capped, begun];
     rows::put_row(trades, n, kept);

@@ -1,12 +1,12 @@
-use Rattle.answers.proofs.Answers.{answer_laws}
+use Rattle.answers.proofs.Answers.{refused_laws, tables_known, sheet_written}
 use Rattle.std.proofs.Common.{rules}
 use Rattle.answers.proofs.write_sheet.Goals as goal
 
 pub write_own-requires : goal.write_own-requires
-write_own-requires c = search (answer_laws, rules)
+write_own-requires c = search (tables_known _ _ _ _ _ _ _ c.survey.ensures c.in_ok-whole.whole, rules)
 
-pub returns-in-Stopped : goal.returns-in-Stopped
-returns-in-Stopped c = search (answer_laws, rules)
+pub returns-in_err-whole : goal.returns-in_err-whole
+returns-in_err-whole c = search (refused_laws, rules)
 
-pub returns-in-Whole : goal.returns-in-Whole
-returns-in-Whole c = search (answer_laws, rules)
+pub returns : goal.returns
+returns c = search (sheet_written _ _ _ _ _ _ _ c.survey.ensures c.in_ok-whole.whole, rules)

@@ -5,8 +5,8 @@ use Rattle.checker.proofs.check_lines.Goals as goal
 pub loop-i-init : goal.loop-i-init
 loop-i-init c = search (lines_laws, rules)
 
-pub returns-in-Refused : goal.returns-in-Refused
-returns-in-Refused c = search (lines_laws, rules)
+pub returns-in_err-check_line : goal.returns-in_err-check_line
+returns-in_err-check_line c = search (lines_laws, rules)
 
 pub loop-i-preserved : goal.loop-i-preserved
 loop-i-preserved c = search (lines_laws, rules)

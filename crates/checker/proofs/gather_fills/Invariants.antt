@@ -1,9 +1,5 @@
-use Prim.Native.Nat.{◌-◌}
 use Rattle.checker.specs.Beside.{FillsGathering}
 use Rattle.checker.proofs.gather_fills.Given as goal
 
 abbrev pub invariant-loop-i : goal.invariant-loop-i
-invariant-loop-i l = FillsGathering l.claims l.said l.m l.k l.i l.fill
-
-abbrev pub decreases-loop-i : goal.decreases-loop-i
-decreases-loop-i l = l.k - l.i
+invariant-loop-i l = FillsGathering l.claims l.said l.m l.k l.i l.initial.portions l.portions

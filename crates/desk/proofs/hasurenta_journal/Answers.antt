@@ -2,8 +2,8 @@ use Rattle.desk.proofs.Exports.{journal_laws}
 use Rattle.std.proofs.Common.{rules}
 use Rattle.desk.proofs.hasurenta_journal.Goals as goal
 
-pub returns-in-Accepted : goal.returns-in-Accepted
-returns-in-Accepted c = search (journal_laws, rules)
+pub returns-in-Ok : goal.returns-in-Ok
+returns-in-Ok c = search (journal_laws, rules)
 
-pub returns-in-Refused : goal.returns-in-Refused
-returns-in-Refused c = search (journal_laws, rules)
+pub returns-in-Err : goal.returns-in-Err
+returns-in-Err c = search (journal_laws, rules)

@@ -2,8 +2,8 @@ use Rattle.desk.proofs.Exports.{totals_laws}
 use Rattle.std.proofs.Common.{rules}
 use Rattle.desk.proofs.hasurenta_totals.Goals as goal
 
-pub returns-in-Totals : goal.returns-in-Totals
-returns-in-Totals c = search (totals_laws, rules)
+pub returns-in-Ok : goal.returns-in-Ok
+returns-in-Ok c = search (totals_laws, rules)
 
-pub returns-in-NoTotals : goal.returns-in-NoTotals
-returns-in-NoTotals c = search (totals_laws, rules)
+pub returns-in-Err : goal.returns-in-Err
+returns-in-Err c = search (totals_laws, rules)

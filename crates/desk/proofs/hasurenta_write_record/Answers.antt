@@ -3,10 +3,7 @@ use Rattle.std.proofs.Common.{rules}
 use Rattle.desk.proofs.hasurenta_write_record.Goals as goal
 
 pub returns-then-numbers-lt-RECORD_LEAST : goal.returns-then-numbers-lt-RECORD_LEAST
-returns-then-numbers-lt-RECORD_LEAST c = search (writer_laws, rules)
-
-pub returns-then-numbers-gt-RECORD_MOST : goal.returns-then-numbers-gt-RECORD_MOST
-returns-then-numbers-gt-RECORD_MOST c = search (writer_laws, rules)
+returns-then-numbers-lt-RECORD_LEAST c = search (writer_laws, c.then-numbers-lt-RECORD_LEAST.either, rules)
 
 pub returns : goal.returns
 returns c = search (writer_laws, rules)

@@ -5,17 +5,17 @@ use Rattle.market.proofs.judge.Goals as goal
 pub returns-then-not-is_home : goal.returns-then-not-is_home
 returns-then-not-is_home c = search (judge_laws, rules)
 
-pub returns-then-r-eq-QUOTE : goal.returns-then-r-eq-QUOTE
-returns-then-r-eq-QUOTE c = search (judge_laws, rules)
+pub returns-else-not-is_home : goal.returns-else-not-is_home
+returns-else-not-is_home c = search (judge_laws, rules)
 
-pub returns-then-r-eq-SENT : goal.returns-then-r-eq-SENT
-returns-then-r-eq-SENT c = search (judge_laws, rules)
+pub returns-in-4 : goal.returns-in-4
+returns-in-4 c = search (judge_laws, rules)
 
-pub returns-then-r-eq-RECEIVED : goal.returns-then-r-eq-RECEIVED
-returns-then-r-eq-RECEIVED c = search (judge_laws, rules)
+pub returns-in-6 : goal.returns-in-6
+returns-in-6 c = search (judge_laws, rules)
 
-pub returns-then-r-eq-TRADE : goal.returns-then-r-eq-TRADE
-returns-then-r-eq-TRADE c = search (judge_laws, rules)
+pub returns-in-3 : goal.returns-in-3
+returns-in-3 c = search (judge_laws, rules)
 
-pub returns : goal.returns
-returns c = search (judge_laws, rules)
+pub returns-in_default : goal.returns-in_default
+returns-in_default c = search (judge_laws, rules)

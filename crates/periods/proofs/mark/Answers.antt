@@ -2,11 +2,5 @@ use Rattle.periods.proofs.Keeping.{mark_laws}
 use Rattle.std.proofs.Common.{rules}
 use Rattle.periods.proofs.mark.Goals as goal
 
-pub returns-then-periods-at : goal.returns-then-periods-at
-returns-then-periods-at c = search (mark_laws, rules)
-
 pub returns-then-shown_by-periods : goal.returns-then-shown_by-periods
 returns-then-shown_by-periods c = search (mark_laws, rules)
-
-pub returns : goal.returns
-returns c = search (mark_laws, rules)

@@ -1,9 +1,5 @@
-use Prim.Native.Nat.{◌-◌}
 use Rattle.sheet.specs.Tables.{Filling}
 use Rattle.sheet.proofs.own_fills.Given as goal
 
 abbrev pub invariant-loop-m : goal.invariant-loop-m
 invariant-loop-m l = Filling l.claims l.trades l.traded l.lines l.initial.fills l.fills l.m
-
-abbrev pub decreases-loop-m : goal.decreases-loop-m
-decreases-loop-m l = l.traded - l.m

@@ -2,8 +2,5 @@ use Rattle.sheet.proofs.Written.{put_laws}
 use Rattle.std.proofs.Common.{rules}
 use Rattle.sheet.proofs.put_number.Goals as goal
 
-pub returns-in_default : goal.returns-in_default
-returns-in_default c = search (put_laws, rules)
-
 pub returns : goal.returns
 returns c = search (put_laws, rules)

@@ -1,4 +1,4 @@
-use Rattle.trades.proofs.TradeLaws.{trade_laws, trade_taken}
+use Rattle.trades.proofs.TradeLaws.{trade_laws, trade_taken, bit_from}
 use Rattle.std.proofs.Common.{rules}
 use Rattle.trades.proofs.keep_trade.Goals as goal
 
@@ -7,6 +7,6 @@ returns-then-r-ne-TRADE c = search (trade_laws, rules)
 
 pub returns : goal.returns
 returns c =
-    trade_taken _ _ _ _ _ _ _ _ _ _ _ _ _ c.requires.headed c.requires.fits_trades c.if-r-ne-TRADE.false _ _ _ c.index-series.ensures
-    c.keep_snaps.ensures _ c.is_capped.ensures _ _ _ c.bit_of-found.ensures c.bit_of-capped.ensures c.bit_of-begun.ensures
+    trade_taken _ _ _ _ _ _ _ _ _ _ _ _ _ c.requires.headed c.requires.fits_trades c.if-r-ne-TRADE.false _ _
+    c.keep_snaps.ensures _ c.is_capped.ensures _ _ _ (bit_from _ _ c.from-found.ensures) (bit_from _ _ c.from-capped.ensures) (bit_from _ _ c.from-begun.ensures)
     c.put_row.ensures
