@@ -13,9 +13,9 @@ use Rattle.rules.specs.OwnSheet.{give_one, give, empty}
 use Rattle.rules.specs.SheetCheck.{fills_of}
 use Rattle.rules.proofs.OwnSheet.{empty_lines}
 use Rattle.sharing.specs.declared.Turn.{Turn}
-use Rattle.fairness.specs.Lines.{claims_in, customers_in, fills_in, Lined, Gathered, claim_at, contracts_at, filled_at, share_at, nothing}
+use Rattle.fairness.specs.Lines.{claims_in, customers_in, fills_in, Lined, Gathered, claim_at, contracts_at, filled_at, share_at, nothing, Served}
 use Rattle.fairness.specs.declared.Portion.{Portion}
-use Rattle.sharing.specs.Turns.{Least, Scanning, NextTurn, Stays, Given, Giving, emptied, full, Made, SharedOut}
+use Rattle.sharing.specs.Turns.{Least, Found, nobody, least, Scanning, NextTurn, Stays, Given, Giving, emptied, full, Made, SharedOut}
 use Rattle.sharing.proofs.Turns.{scanning_none, scanning_more}
 use Rattle.fairness.proofs.Places.{set_keeps, gathered_many, fill_at, claim_at_lem, customers_at, gathered_served}
 use Rattle.sharing.proofs.Rounds.{round_gives, round_over, rounds_over, round_keeps_lines, all_claims_due_fills_every_claim}
@@ -52,16 +52,36 @@ module _ (portions : List Portion) (ss : List Share) (g : Gathered ss portions) 
       let hi : i < length portions = omega arith in
       rw (← claim_at_lem ss portions g i, ← fill_at ss portions g i) (filled i hi))
 
-pub scanning_all : (portions : List Portion) (i : ℕ) (t : Option Turn) → Scanning portions i t → length portions ≤ i → NextTurn portions t
-scanning_all portions i best s h =
-    let e : i ≡ length portions = omega (arith, s.low) in
-    record {
-      low = s.line_low;
-      gives = λ t n ss g. turn_gives portions ss g t (rw (e, n) at (s.found (gathered_served ss portions g)));
-      over = λ n ss g. turn_over portions ss g (rw (e, n) at (s.found (gathered_served ss portions g)));
-    }
+  module _ (t : Turn) where
+    found_gives : t.line < length portions → Found portions (length portions) t → fills_of (give_one ss) ≡ set (fills_of ss) t.line t.fill
+    found_gives h (nobody n) = let e : t.line ≡ length portions = ap (λ (x : Turn). x.line) n.is in absurd (omega arith)
+    found_gives h (least l) = turn_gives t l
 
-pub ruleset scan_laws = (scanning_none, scanning_more, scanning_all)
+    found_over : length portions ≤ t.line → Found portions (length portions) t → give_one ss ≡ ss
+    found_over h (nobody n) = turn_over n.filled
+    found_over h (least l) = absurd (omega (arith, l.here))
+
+module _ (portions : List Portion) (i : ℕ) (t : Turn) (s : Scanning portions i t) (all : length portions ≤ i) where
+  found_last : Served portions → Found portions (length portions) t
+  found_last served = let e : i ≡ length portions = omega (arith, s.low) in rw e at (s.found served)
+
+  pub scanning_found : t.line < length portions → NextTurn portions (Some t)
+  scanning_found h =
+      record {
+        low = λ u e. let l : t ≡ u = cc in rw (← l) h;
+        gives = λ u e ss g. let l : t ≡ u = cc in rw (← l) (found_gives portions ss g t h (found_last (gathered_served ss portions g)));
+        over = λ e. cc;
+      }
+
+  pub scanning_nobody : length portions ≤ t.line → NextTurn portions None
+  scanning_nobody h =
+      record {
+        low = λ u e. cc;
+        gives = λ u e. cc;
+        over = λ e ss g. found_over portions ss g t h (found_last (gathered_served ss portions g));
+      }
+
+pub ruleset scan_laws = (scanning_none, scanning_more, scanning_found, scanning_nobody)
 
 -- ---- giving
 

@@ -3,49 +3,43 @@ use mathlib.Core.Path.{◌≡◌, refl, subst}
 use mathlib.Core.Bool.{◌&&◌}
 use mathlib.Core.List.{List}
 use Prim.Native.Nat.{ℕ, ◌+◌, ◌*◌, ◌<◌, ◌≤◌}
-use native.Mathlib.Nat.{mul_right_comm, mul-le-mul_right, mul-lt-mul_of_pos_right, lt_of_mul-lt-mul_right, le_of_lt}
+use native.Mathlib.Nat.{mul_right_comm, mul-le-mul_right, mul-lt-mul_of_pos_right, lt_of_mul-lt-mul_right, mul-zero, one-mul, le_of_lt}
 use native.Mathlib.Omega.{arith}
 use lib.Dec.{ltb}
 use borrow.Author.Tests.{ltb-true, ltb-false, lt-ltb, le-ltb}
 use borrow.Author.Count.{below_more}
-use Rattle.std.specs.Prelude.{Option, Some, None}
 use Rattle.rules.proofs.Tests.{by_test}
 use Rattle.sharing.specs.declared.Turn.{Turn}
 use Rattle.fairness.specs.Lines.{claim_at, contracts_at, filled_at, Served, nothing}
 use Rattle.fairness.specs.declared.Portion.{Portion}
 use lib.ListN.{get_or, length}
-use Rattle.sharing.specs.Turns.{before_best, sooner_of, Least, Found, Scanning}
+use Rattle.sharing.specs.Turns.{sooner_of, Least, Nobody, Found, nobody, least, Scanning}
 use Rattle.rows.proofs.Rows.{words_product_fits}
 
 -- ---- the better of two
 
-module _ (best : Option Turn) (line : ℕ) (p : Portion) where
+module _ (best : Turn) (line : ℕ) (p : Portion) where
   pub sooner_filled : p.claim ≤ p.filled → best ≡ sooner_of best line p
   unfolding sooner_of
   sooner_filled h = rw (le-ltb p.filled p.claim h)
 
   module _ (unfilled : p.filled < p.claim) where
-    pub sooner_first : best ≡ None → Some (record { line = line; fill = p.filled + 1; customers = p.customers }) ≡ sooner_of best line p
+    turn_taken : (p.filled + 1) * best.customers < best.fill * p.customers → record { line = line; fill = p.filled + 1; customers = p.customers } ≡ sooner_of best line p
     unfolding sooner_of
-    sooner_first e = rw (e, lt-ltb p.filled p.claim unfilled)
+    turn_taken h = rw (lt-ltb p.filled p.claim unfilled, lt-ltb ((p.filled + 1) * best.customers) (best.fill * p.customers) h)
 
-    module _ (t : Turn) (e : best ≡ Some t) where
-      turn_taken : (p.filled + 1) * t.customers < t.fill * p.customers → Some (record { line = line; fill = p.filled + 1; customers = p.customers }) ≡ sooner_of best line p
-      unfolding sooner_of
-      turn_taken h = rw (e, lt-ltb p.filled p.claim unfilled, lt-ltb ((p.filled + 1) * t.customers) (t.fill * p.customers) h)
+    turn_kept : best.fill * p.customers ≤ (p.filled + 1) * best.customers → best ≡ sooner_of best line p
+    unfolding sooner_of
+    turn_kept h = rw (lt-ltb p.filled p.claim unfilled, le-ltb ((p.filled + 1) * best.customers) (best.fill * p.customers) h)
 
-      turn_kept : t.fill * p.customers ≤ (p.filled + 1) * t.customers → best ≡ sooner_of best line p
-      unfolding sooner_of
-      turn_kept h = rw (e, lt-ltb p.filled p.claim unfilled, le-ltb ((p.filled + 1) * t.customers) (t.fill * p.customers) h)
+    module _ (a b c d : ℕ) (ea : a ≡ p.filled + 1) (eb : b ≡ best.customers) (ec : c ≡ best.fill) (ed : d ≡ p.customers) where
+      pub sooner_taken : a * b < c * d → record { line = line; fill = p.filled + 1; customers = p.customers } ≡ sooner_of best line p
+      sooner_taken h = turn_taken (rw (← ea, ← eb, ← ec, ← ed) h)
 
-      module _ (a b c d : ℕ) (ea : a ≡ p.filled + 1) (eb : b ≡ t.customers) (ec : c ≡ t.fill) (ed : d ≡ p.customers) where
-        pub sooner_taken : a * b < c * d → Some (record { line = line; fill = p.filled + 1; customers = p.customers }) ≡ sooner_of best line p
-        sooner_taken h = turn_taken (rw (← ea, ← eb, ← ec, ← ed) h)
+      pub sooner_kept : c * d ≤ a * b → best ≡ sooner_of best line p
+      sooner_kept h = turn_kept (rw (← ea, ← eb, ← ec, ← ed) h)
 
-        pub sooner_kept : c * d ≤ a * b → best ≡ sooner_of best line p
-        sooner_kept h = turn_kept (rw (← ea, ← eb, ← ec, ← ed) h)
-
-pub ruleset sooner_laws = (sooner_filled, sooner_first, sooner_taken, sooner_kept, words_product_fits)
+pub ruleset sooner_laws = (sooner_filled, sooner_taken, sooner_kept, words_product_fits)
 
 -- ---- fractions: x / c < y / d ≤ z / e
 
@@ -60,17 +54,17 @@ fractions_less x c y d z e p h k =
 
 module _ (portions : List Portion) where
   module _ (i : ℕ) where
-    filled_line_passed : (best : Option Turn) → claim_at portions i ≤ filled_at portions i → Found portions i best → Found portions (i + 1) best
-    filled_line_passed None h filled = below_more (λ j. claim_at portions j ≤ filled_at portions j) i filled h
-    filled_line_passed (Some t) h l =
-        record {
+    filled_line_passed : (best : Turn) → claim_at portions i ≤ filled_at portions i → Found portions i best → Found portions (i + 1) best
+    filled_line_passed t h (nobody n) = nobody (record { filled = below_more (λ j. claim_at portions j ≤ filled_at portions j) i n.filled h; is = n.is })
+    filled_line_passed t h (least l) =
+        least (record {
           here = omega (arith, l.here);
           unfilled = l.unfilled;
           one_more = l.one_more;
           own = l.own;
           least = below_more (λ j. filled_at portions j < claim_at portions j → t.fill * contracts_at portions j ≤ (filled_at portions j + 1) * t.customers) i l.least (λ u. absurd (omega arith));
           earliest = l.earliest;
-        }
+        })
 
     later_line_passed : (t : Turn) → filled_at portions i < claim_at portions i → t.fill * contracts_at portions i ≤ (filled_at portions i + 1) * t.customers → Least portions i t → Least portions (i + 1) t
     later_line_passed t u h l =
@@ -100,52 +94,55 @@ module _ (portions : List Portion) where
           earliest = f;
         }
 
-    abbrev after : Option Turn → Option Turn
+    abbrev after : Turn → Turn
     after best = sooner_of best i (get_or portions i nothing)
 
-    module _ (served : Served portions) (low : i < length portions) (u : filled_at portions i < claim_at portions i) where
-      open_line_found : (best : Option Turn) → Found portions i best → Found portions (i + 1) (after best)
-      open_line_found None filled =
-          subst (Found portions (i + 1)) (sooner_first None i (get_or portions i nothing) u refl)
-          (unfold turn in first_turn_is_least u (λ j h v. absurd (omega (arith, filled j h))))
-      open_line_found (Some t) l =
+    module _ (served : Served portions) (low : i < length portions) (u : filled_at portions i < claim_at portions i) (t : Turn) where
+      first_open_line_found : Nobody portions i t → Found portions (i + 1) (after t)
+      first_open_line_found n =
+          let z : (filled_at portions i + 1) * t.customers < t.fill * contracts_at portions i =
+          rw (n.is, mul-zero (filled_at portions i + 1), one-mul (contracts_at portions i)) (omega (arith, served i low)) in
+          subst (Found portions (i + 1)) (turn_taken t i (get_or portions i nothing) u z)
+          (least (unfold turn in first_turn_is_least u (λ j h v. absurd (omega (arith, n.filled j h)))))
+
+      later_open_line_found : Least portions i t → Found portions (i + 1) (after t)
+      later_open_line_found l =
           by_test (ltb ((filled_at portions i + 1) * t.customers) (t.fill * contracts_at portions i))
           (λ e.
           let z = ltb-true _ _ e in
-          subst (Found portions (i + 1)) (turn_taken (Some t) i (get_or portions i nothing) u t refl z)
-          (unfold turn in first_turn_is_least u (λ j h v.
-          fractions_less (filled_at portions i + 1) (contracts_at portions i) t.fill t.customers (filled_at portions j + 1) (contracts_at portions j) (omega (arith, served j (omega arith))) z (l.least j h v))))
+          subst (Found portions (i + 1)) (turn_taken t i (get_or portions i nothing) u z)
+          (least (unfold turn in first_turn_is_least u (λ j h v.
+          fractions_less (filled_at portions i + 1) (contracts_at portions i) t.fill t.customers (filled_at portions j + 1) (contracts_at portions j) (omega (arith, served j (omega arith))) z (l.least j h v)))))
           (λ e.
           let z = ltb-false _ _ e in
-          subst (Found portions (i + 1)) (turn_kept (Some t) i (get_or portions i nothing) u t refl z) (later_line_passed t u z l))
+          subst (Found portions (i + 1)) (turn_kept t i (get_or portions i nothing) u z) (least (later_line_passed t u z l)))
 
-    found_more : Served portions → i < length portions → (best : Option Turn) → Found portions i best → Found portions (i + 1) (after best)
+    found_more : Served portions → i < length portions → (best : Turn) → Found portions i best → Found portions (i + 1) (after best)
     found_more served low best f =
         by_test (ltb (filled_at portions i) (claim_at portions i))
-        (λ e. open_line_found served low (ltb-true _ _ e) best f)
+        (λ e. unfilled_line (ltb-true _ _ e) f)
         (λ e.
         let z = ltb-false _ _ e in
         subst (Found portions (i + 1)) (sooner_filled best i (get_or portions i nothing) z) (filled_line_passed best z f))
+      where
+        unfilled_line : filled_at portions i < claim_at portions i → Found portions i best → Found portions (i + 1) (after best)
+        unfilled_line u (nobody n) = first_open_line_found served low u best n
+        unfilled_line u (least l) = later_open_line_found served low u best l
 
-    sooner_low : (best : Option Turn) → ((t : Turn) → best ≡ Some t → t.line < length portions) → i < length portions → (p : Portion) (t : Turn) → sooner_of best i p ≡ Some t → t.line < length portions
+    sooner_low : (best : Turn) → best.line ≤ length portions → i < length portions → (p : Portion) → (sooner_of best i p).line ≤ length portions
     unfolding sooner_of
-    sooner_low best a b p t e =
-        by_test (ltb p.filled p.claim && before_best (p.filled + 1) p.customers best)
-        (λ q.
-        let r : Some (record { line = i; fill = p.filled + 1; customers = p.customers }) ≡ Some t = rw q at e in
-        let l : i ≡ t.line = cc in
-        rw (← l) b)
-        (λ q. a t (rw q at e))
+    sooner_low best a b p =
+        by_test (ltb p.filled p.claim && ltb ((p.filled + 1) * best.customers) (best.fill * p.customers)) (λ e. rw e (le_of_lt b)) (λ e. rw e a)
 
-  pub scanning_none : Scanning portions 0 None
+  pub scanning_none : Scanning portions 0 (record { line = length portions; fill = 1; customers = 0 })
   scanning_none =
       record {
-        found = λ served i h. absurd (omega arith);
-        line_low = λ t e. cc;
+        found = λ served. nobody (record { filled = λ i h. absurd (omega arith); is = refl });
+        line_low = omega arith;
         low = omega arith;
       }
 
-  pub scanning_more : (i : ℕ) (t u : Option Turn) → Scanning portions i t → i < length portions
+  pub scanning_more : (i : ℕ) (t u : Turn) → Scanning portions i t → i < length portions
       → u ≡ sooner_of t i (get_or portions i nothing) → Scanning portions (i + 1) u
   scanning_more i t u s h e =
       record {

@@ -1,5 +1,5 @@
 -- Whose turn it is to get a contract, what the steps of sharing out do to the lines in memory, and the shares of our own sheet.
-use Rattle.std.specs.Prelude.{◌≡◌, Bool, true, ◌&&◌, List, map, ℕ, ◌+◌, ◌*◌, ◌<◌, ◌≤◌, length, take, drop, set, ◌++◌, if◌then◌else◌, Option, Some, None}
+use Rattle.std.specs.Prelude.{◌≡◌, ◌&&◌, List, map, ℕ, ◌+◌, ◌*◌, ◌<◌, ◌≤◌, length, take, drop, set, ◌++◌, if◌then◌else◌, Option, Some, None}
 use Rattle.rules.specs.Basics.{◌less_than◌}
 use Rattle.rules.specs.Due.{Line, Share}
 use Rattle.rules.specs.OwnSheet.{give, give_one, empty}
@@ -11,14 +11,10 @@ use Rattle.fairness.specs.declared.Portion.{Portion}
 -- ---- turns
 
 -- the line, if it is unfilled and its turn comes before the best one's; cross products stand for (fill + 1) per customer contract
-abbrev pub before_best : ℕ → ℕ → Option Turn → Bool
-before_best more customers None = true
-before_best more customers (Some best) = more * best.customers less_than best.fill * customers
-
-unfoldable pub sooner_of : Option Turn → ℕ → Portion → Option Turn
+unfoldable pub sooner_of : Turn → ℕ → Portion → Turn
 sooner_of best line p =
-    if p.filled less_than p.claim && before_best (p.filled + 1) p.customers best
-    then Some (record { line = line; fill = p.filled + 1; customers = p.customers })
+    if p.filled less_than p.claim && (p.filled + 1) * best.customers less_than best.fill * p.customers
+    then record { line = line; fill = p.filled + 1; customers = p.customers }
     else best
 
 -- of the lines below `seen`, the turn is the unfilled one's with the least (fill + 1) per customer contract, the earliest on a tie
@@ -30,14 +26,18 @@ pub record Least (portions : List Portion) (seen : ℕ) (t : Turn) : Type 0 wher
   pub least : (i : ℕ) → i < seen → filled_at portions i < claim_at portions i → t.fill * contracts_at portions i ≤ (filled_at portions i + 1) * t.customers
   pub earliest : (i : ℕ) → i < t.line → filled_at portions i < claim_at portions i → t.fill * contracts_at portions i < (filled_at portions i + 1) * t.customers
 
--- or every one of them is filled, and it is nobody's
-abbrev pub Found : List Portion → ℕ → Option Turn → Type 0
-Found portions seen None = (i : ℕ) → i < seen → claim_at portions i ≤ filled_at portions i
-Found portions seen (Some t) = Least portions seen t
+-- or every one of them is filled, and it is nobody's: one contract on no customer contracts, which comes after any line's turn
+pub record Nobody (portions : List Portion) (seen : ℕ) (t : Turn) : Type 0 where
+  pub filled : (i : ℕ) → i < seen → claim_at portions i ≤ filled_at portions i
+  pub is : t ≡ record { line = length portions; fill = 1; customers = 0 }
 
-pub record Scanning (portions : List Portion) (i : ℕ) (best : Option Turn) : Type 0 where
+pub data Found (portions : List Portion) (seen : ℕ) (t : Turn) : Type 0 where
+  nobody : Nobody portions seen t → Found portions seen t
+  least : Least portions seen t → Found portions seen t
+
+pub record Scanning (portions : List Portion) (i : ℕ) (best : Turn) : Type 0 where
   pub found : Served portions → Found portions i best
-  pub line_low : (t : Turn) → best ≡ Some t → t.line < length portions
+  pub line_low : best.line ≤ length portions
   pub low : i ≤ length portions
 
 -- the round of the definitions
