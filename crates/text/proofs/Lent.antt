@@ -1,14 +1,13 @@
 -- Laws of writing into lent memory: nothing, one byte, a text, one thing after another; and from there to the definitions of all or nothing.
-use Prim.Native.Nat.{ℕ, ◌+◌, ◌-◌, ◌≤◌, ◌<◌}
+use Prim.Native.Nat.{ℕ, ◌+◌, ◌≤◌, ◌<◌}
 use native.Mathlib.Omega.{arith}
 use native.Mathlib.Numerals.{add-one}
 use native.Mathlib.Nat.{add-zero, zero-add}
-use mathlib.Core.Path.{◌≡◌, refl, sym, ap, ◌∙◌}
+use mathlib.Core.Path.{◌≡◌, sym, ap, subst, ◌∙◌}
 use mathlib.Core.List.{List, [], ◌∷◌, ◌++◌, append_assoc, append-nil}
-use lib.ListN.{length, take, drop, set, length-append, length-drop, length-set, take-append-drop}
-use lib.Seq.{take_at, drop_at, drop-drop, length-take-le, set_split, append_snoc}
+use lib.ListN.{length, get_or, take, drop, set, length-append, length-drop, length-set, take-append-drop}
+use lib.Seq.{take_at, drop_at, drop-drop, length-take-le, set_split, append_snoc, take-suc, take_all}
 use borrow.Author.Tests.{le-leb, lt-leb}
-use borrow.Rule.Slice.PartMut.{put_mid}
 use Rattle.std.specs.Prelude.{Result, Ok, Err}
 use Rattle.rules.specs.Basics.{Answer, ok, refused, ◌>>=◌}
 use Rattle.rules.specs.Refusals.{output_too_short}
@@ -92,14 +91,40 @@ module _ (whole a b s : List ℕ) (at : ℕ) (room : at + length whole ≤ lengt
     pub both_wrote : (e : List ℕ) (q : ℕ) → Wrote d p b e q → Wrote s at whole e q
     both_wrote e q v = rw parts (wrote_then s at a d p b e q w v)
 
--- ---- a text
+-- ---- a text: i bytes of it are written
 
--- stored by the library into the part of the lent memory that it takes
-pub text_put : (s text d : List ℕ) (at : ℕ) → at + length text ≤ length s → d ≡ text → Wrote s at text (put_mid at (at + length text - at) s d) (at + length text)
-unfolding lent_with
-text_put s text d at h e =
-    let k : at + length text - at ≡ length text = omega arith in
-    record { room = h; lent = rw (k, e, drop-drop (length text) at s) (sym (append_assoc (take at s) text (drop (at + length text) s))); place = refl }
+pub record Copied (s text : List ℕ) (at : ℕ) (out : List ℕ) (i : ℕ) : Type 0 where
+  pub below : i ≤ length text
+  pub room : at + length text ≤ length s
+  pub wrote : Wrote s at (take i text) out (at + i)
+
+pub copied_none : (s text : List ℕ) (at : ℕ) → at + length text ≤ length s → Copied s text at s 0
+copied_none s text at h =
+    let w : Wrote s at [] s at = wrote_none s at (omega arith) in
+    record { below = omega arith; room = h; wrote = rw add-zero w }
+
+module _ (s text : List ℕ) (at : ℕ) (out : List ℕ) (i : ℕ) (w : Copied s text at out i) where
+  pub copied_length : length out ≡ length s
+  copied_length = wrote_length s at _ out (at + i) w.wrote
+
+  pub copied_all : length text ≤ i → Wrote s at text out (at + length text)
+  copied_all h =
+      let e : i ≡ length text = omega (arith, w.below) in
+      rw e at (subst (λ t. Wrote s at t out (at + i)) (take_all i text h) w.wrote)
+
+  module _ (h : i < length text) where
+    pub copied_index : at + i < length out
+    copied_index = omega (arith, w.room, copied_length)
+
+    pub copied_more : Copied s text at (set out (at + i) (get_or text i 0)) (i + 1)
+    copied_more =
+        let b = get_or text i 0 in
+        let one = wrote_one out (at + i) b copied_index in
+        let both = wrote_then s at (take i text) out (at + i) (b ∷ []) (set out (at + i) b) (at + i + 1) w.wrote one in
+        let p : at + (i + 1) ≡ at + i + 1 = omega arith in
+        record { below = omega arith; room = w.room; wrote = rw (p, add-one i, take-suc text i 0 h) both }
+
+pub ruleset copy_laws = (copied_none, copied_length, copied_all, copied_index, copied_more)
 
 -- ---- all or nothing
 
