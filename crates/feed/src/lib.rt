@@ -137,9 +137,12 @@ pub fn print<D: Display + Drop>(rt: &(impl Print + Eprint), shown: D) {
 // "It prints `refused 2 at 0` (number, place)": the line that `text` is proved to write.
 pub fn refused<W: Write>(to: &mut W, no: u32, place: usize) {
     let mut line = [0u8; Room::REFUSAL];
-    let width = text::refusal_width(no, place);
-    text::put_refusal(&mut line[..width], 0, no, place);
-    let _ = to.write_all(&line[..width]);
+    let Ok(width) = text::write_refusal(&mut line, no, place) else {
+        return;
+    };
+    if let Some(said) = line.get(..width) {
+        let _ = to.write_all(said);
+    }
 }
 
 // The same of a refusal; `refused` is still given any number, and `text` writes the line, since that is proved and a Display would not be.

@@ -8,7 +8,7 @@ use native.Mathlib.Omega.{arith}
 use lib.ListN.{length, set, drop, length-set, length-drop}
 use lib.Seq.{get_or-set_same, get_or-set_other}
 use borrow.Author.Tests.{eq-eqb, ne_eqb}
-use Rattle.std.specs.Prelude.{Option, Some, None, ok_or, Result, Ok, Err}
+use Rattle.std.specs.Prelude.{Option, Some, None, Result, Ok, Err}
 use Rattle.rules.specs.Basics.{Answer, refused, ok, ◌>>=◌, demand}
 use Rattle.rules.specs.Limits.{most_satisfaction_orders}
 use Rattle.rules.specs.Refusals.{not_three_each}
@@ -25,40 +25,26 @@ use Rattle.said.specs.Said.{each, as_three, three_at, nothing, as_line, said_lin
 
 -- ---- one line
 
-read_is : (o : Option (ℕ × ℕ)) (at : ℕ) (x : ℕ × ℕ) → ok_or o at ≡ Ok x → o ≡ Some x
-read_is None at x e = cc
-read_is (Some y) at x e = cc
-
-cut_is : (o : Option (ℕ × ℕ)) (at place : ℕ) → ok_or o at ≡ Err place → (o ≡ None) × (place ≡ at)
-cut_is None at place e = (refl, cc)
-cut_is (Some y) at place e = cc
-
-module _ (sheet : List ℕ) (at : ℕ) (a : Option (ℕ × ℕ)) (ea : a ≡ field_at sheet at) (oa : Result (ℕ × ℕ) ℕ) (va : oa ≡ ok_or a at) where
-  pub first_cut : (place : ℕ) → oa ≡ Err place → Err place ≡ three_at sheet at
+module _ (sheet : List ℕ) (at : ℕ) (a : Option (ℕ × ℕ)) (ea : a ≡ field_at sheet at) where
+  pub first_cut : a ≡ None → Err at ≡ three_at sheet at
   unfolding three_at many_at
-  first_cut place g = let n = cut_is a at place (sym va ∙ g) in rw (← ea, n.0, n.1)
+  first_cut g = rw (← ea, g)
 
-  module _ (x after_reason : ℕ) (ga : oa ≡ Ok (x, after_reason)) (b : Option (ℕ × ℕ)) (eb : b ≡ field_at sheet after_reason)
-      (ob : Result (ℕ × ℕ) ℕ) (vb : ob ≡ ok_or b after_reason) where
-    has_reason : a ≡ Some (x, after_reason)
-    has_reason = read_is a at (x, after_reason) (sym va ∙ ga)
-
-    pub second_cut : (place : ℕ) → ob ≡ Err place → Err place ≡ three_at sheet at
+  module _ (x after_reason : ℕ) (ga : a ≡ Some (x, after_reason)) (b : Option (ℕ × ℕ)) (eb : b ≡ field_at sheet after_reason) where
+    pub second_cut : b ≡ None → Err after_reason ≡ three_at sheet at
     unfolding three_at many_at after
-    second_cut place g = let n = cut_is b after_reason place (sym vb ∙ g) in rw (← ea, has_reason, ← eb, n.0, n.1)
+    second_cut g = rw (← ea, ga, ← eb, g)
 
-    module _ (y after_filled : ℕ) (gb : ob ≡ Ok (y, after_filled)) (d : Option (ℕ × ℕ)) (ed : d ≡ field_at sheet after_filled)
-        (od : Result (ℕ × ℕ) ℕ) (vd : od ≡ ok_or d after_filled) where
-      has_filled : b ≡ Some (y, after_filled)
-      has_filled = read_is b after_reason (y, after_filled) (sym vb ∙ gb)
-
-      pub third_cut : (place : ℕ) → od ≡ Err place → Err place ≡ three_at sheet at
+    module _ (y after_filled : ℕ) (gb : b ≡ Some (y, after_filled)) (d : Option (ℕ × ℕ)) (ed : d ≡ field_at sheet after_filled) where
+      pub third_cut : d ≡ None → Err after_filled ≡ three_at sheet at
       unfolding three_at many_at after
-      third_cut place g = let n = cut_is d after_filled place (sym vd ∙ g) in rw (← ea, has_reason, ← eb, has_filled, ← ed, n.0, n.1)
+      third_cut g = rw (← ea, ga, ← eb, gb, ← ed, g)
 
-      pub three_read : (z next : ℕ) → od ≡ Ok (z, next) → Ok (record { reason = x; filled = y; cancelled = z }, next) ≡ three_at sheet at
+      pub three_read : (z next : ℕ) → d ≡ Some (z, next) → Ok (record { reason = x; filled = y; cancelled = z }, next) ≡ three_at sheet at
       unfolding three_at many_at after
-      three_read z next g = rw (← ea, has_reason, ← eb, has_filled, ← ed, read_is d after_filled (z, next) (sym vd ∙ g))
+      three_read z next g = rw (← ea, ga, ← eb, gb, ← ed, g)
+
+pub ruleset line_read_laws = (first_cut, second_cut, third_cut, three_read)
 
 -- ---- a list by its places
 

@@ -29,9 +29,15 @@ impl Said {
 fn read_line(sheet: &[u8], at: usize) -> Result<(Said, usize), usize>
     ensures { result ≡ three_at sheet.now at }
 {
-    let (reason, after_reason) = number::read_at(sheet, at).ok_or(at)?;
-    let (filled, after_filled) = number::read_at(sheet, after_reason).ok_or(after_reason)?;
-    let (cancelled, next) = number::read_at(sheet, after_filled).ok_or(after_filled)?;
+    let Some((reason, after_reason)) = number::read_at(sheet, at) else {
+        return Err(at);
+    };
+    let Some((filled, after_filled)) = number::read_at(sheet, after_reason) else {
+        return Err(after_reason);
+    };
+    let Some((cancelled, next)) = number::read_at(sheet, after_filled) else {
+        return Err(after_filled);
+    };
     Ok((
         Said {
             reason,

@@ -3,38 +3,12 @@ use mathlib.Core.Path.{◌≡◌, sym}
 use mathlib.Core.Bool.{Bool, true, false, not, ◌||◌, and-false, and-true}
 use mathlib.Core.List.{List}
 use Prim.Native.Nat.{ℕ, ◌*◌, ◌<◌, ◌≤◌}
-use native.Mathlib.Omega.{arith}
-use lib.ListN.{length}
 use borrow.Author.Tests.{le-leb, lt-leb, not-true, not-false}
-use Rattle.std.specs.Prelude.{◌==◌}
-use Rattle.rules.specs.Basics.{keep}
-use Rattle.rules.specs.Journal.{History}
-use Rattle.rules.specs.Prices.{standing, up_to, everyone, away, best_bid, best_offer}
-use Rattle.rules.specs.Verdicts.{through, side_through, throughs, is_block}
-use Rattle.quotes.specs.Tables.{Quoted}
+use Rattle.rules.specs.Prices.{best_bid, best_offer}
+use Rattle.rules.specs.Verdicts.{is_block}
 use Rattle.prices.specs.Prices.{above_of, BidIs, OfferIs}
-use Rattle.through.specs.Trades.{form_of, CountIs, BlockIs}
+use Rattle.through.specs.Trades.{form_of, BlockIs}
 use Rattle.through.specs.declared.Trade.{Trade}
-use Rattle.prices.proofs.BestPrices.{others}
-
--- ---- the count c of the away exchanges traded through, up to y, and of all
-
-pub record Counted (quotes : List ℕ) (exchanges home : ℕ) (trade : Trade) (y c : ℕ) : Type 0 where
-  pub few : y ≤ exchanges
-  pub small : c ≤ y
-  pub so : (past : History) → Quoted past quotes
-      → c ≡ length (keep (λ exchange. not (through (standing exchange trade.series past) trade.price == 0)) (keep (others home) (up_to y)))
-
-module _ (quotes : List ℕ) (exchanges home : ℕ) (trade : Trade) where
-  module _ (y c : ℕ) (a : Counted quotes exchanges home trade y c) where
-    pub counted_all : exchanges ≤ y → CountIs quotes exchanges home trade c
-    unfolding throughs side_through away everyone
-    counted_all l =
-        record {
-          so = λ h past k en eh same held.
-              let z : h.exchanges ≡ y = omega (arith, a.few) in simp (z, eh, same.series, same.price) (a.so past held);
-          few = omega (arith, a.small, a.few);
-        }
 
 -- ---- blocks
 

@@ -73,16 +73,38 @@ module _ (quotes : List ℕ) (home : ℕ) (trade : Trade) (low : trade.series < 
       length_more (λ exchange. through (standing exchange trade.series past) trade.price) home (suc n) (up_to n)
       ∙ rw (counted n (omega arith), ← test_is n (omega arith)) (sym (count_more (through_in quotes home trade) n))
 
+-- ---- the count c of the away exchanges traded through, up to y, and of all
+
+pub record Counted (quotes : List ℕ) (exchanges home : ℕ) (trade : Trade) (y c : ℕ) : Type 0 where
+  pub few : y ≤ exchanges
+  pub small : c ≤ y
+  pub so : (past : History) → Quoted past quotes
+      → c ≡ length (keep (λ exchange. not (through (standing exchange trade.series past) trade.price == 0)) (keep (others home) (up_to y)))
+
+module _ (quotes : List ℕ) (exchanges home : ℕ) (trade : Trade) where
+  module _ (y c : ℕ) (a : Counted quotes exchanges home trade y c) where
+    pub counted_all : exchanges ≤ y → CountIs quotes exchanges home trade c
+    unfolding throughs side_through away everyone
+    counted_all l =
+        record {
+          so = λ h past k en eh same held.
+              let z : h.exchanges ≡ y = omega (arith, a.few) in simp (z, eh, same.series, same.price) (a.so past held);
+          few = omega (arith, a.small, a.few);
+        }
+
 module _ (quotes : List ℕ) (exchanges home : ℕ) (trade : Trade) (few : exchanges ≤ most_exchanges) (low : trade.series < many_series) where
-  pub count_found : (c : ℕ) → c ≡ length (filter (through_in quotes home trade) (range_with_len 0 exchanges)) → CountIs quotes exchanges home trade c
-  unfolding throughs side_through away everyone
-  count_found c e =
-      let rows = range_with_len 0 exchanges in
+  counted_so_far : (y c : ℕ) → y ≤ exchanges → c ≡ length (filter (through_in quotes home trade) (range_with_len 0 y)) → Counted quotes exchanges home trade y c
+  counted_so_far y c l e =
+      let rows = range_with_len 0 y in
       let by : c ≡ count_by (through_in quotes home trade) rows = e ∙ length-filter (through_in quotes home trade) rows in
       record {
-        so = λ h past k en eh same held. simp (en, eh, same.series, same.price) (by ∙ sym (counted quotes home trade low past held exchanges few));
-        few = omega (arith, by, count_by-le-length (through_in quotes home trade) rows, length-range_with_len 0 exchanges);
+        few = l;
+        small = omega (arith, by, count_by-le-length (through_in quotes home trade) rows, length-range_with_len 0 y);
+        so = λ past held. by ∙ sym (counted quotes home trade low past held y (omega arith));
       }
+
+  pub count_found : (c : ℕ) → c ≡ length (filter (through_in quotes home trade) (range_with_len 0 exchanges)) → CountIs quotes exchanges home trade c
+  count_found c e = counted_all quotes exchanges home trade exchanges c (counted_so_far exchanges c (omega arith) e) (omega arith)
 
 -- ---- blocks
 
