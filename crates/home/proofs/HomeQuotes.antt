@@ -119,7 +119,7 @@ module _ (quotes : List ℕ) (exchanges home kind : ℕ) (quote : HomeQuote) whe
         far : suc y ≡ home → ⊥
         far = omega arith
 
-        passed_clear : side ≡ 0 → Passed quotes exchanges home kind quote (y + 1)
+        pub passed_clear : side ≡ 0 → Passed quotes exchanges home kind quote (y + 1)
         unfolding lowest_named
         passed_clear e =
             record {
