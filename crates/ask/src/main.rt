@@ -1,6 +1,8 @@
 // Questions on standard input, answers on standard output, until the input ends or a question cannot be read whole.
 #![tactic(auto)]
 
+ghost use Rattle.std.specs.Prelude.{◌<◌, IfOk, IfErr};
+
 use desk::Handed;
 use lent::Lent;
 use op::Op;
@@ -15,6 +17,8 @@ mod op;
 struct Question;
 
 impl Question {
+    const HEAD: usize = 13;
+
     // A larger cap, na or nb ends the run.
     const MOST: usize = 131072;
 }
@@ -30,7 +34,10 @@ impl Reply {
 }
 
 // What an entry answers as one number: how much was written, or a refusal's number × 2^32 + its place.
-fn answered(coded: u64) -> Result<u64, (u64, u64)> {
+fn answered(coded: u64) -> Result<u64, (u64, u64)>
+    ensures written { IfOk result (λ low. low < 4294967296) }
+    ensures place { IfErr result (λ refusal. refusal.1 < 4294967296) }
+{
     let low = coded % Code::UNIT;
     match coded / Code::UNIT {
         0 => Ok(low),
@@ -67,7 +74,11 @@ fn totals(rt: &(impl Print + Eprint), a: &[u8]) -> Option<()> {
 fn read_record(rt: &(impl Print + Eprint), numbers: &[u32], b: &[u8]) -> Option<()> {
     let mut record = [Lent::WORD; Lent::WORDS];
     let coded = desk::hasurenta_read_record(numbers, b, &mut record);
-    let out = record.map(|word| word.to_le_bytes());
+    // by a loop: `map` hands the whole row on by value
+    let mut out = [[0u8; 4]; Lent::WORDS];
+    for (bytes, word) in out.iter_mut().zip(&record) {
+        *bytes = word.to_le_bytes();
+    }
     say(rt, coded, 4, out.as_flattened())
 }
 
@@ -84,6 +95,18 @@ fn numbers_of<'a>(a: &[u8], row: &'a mut [u32; Handed::RECORD_MOST]) -> &'a [u32
     &row[..count]
 }
 
+// The questions that give numbers. What is no row of words is refused as no numbers are.
+fn numbered(rt: &(impl Print + Eprint), op: Op, a: &[u8], b: &[u8], out: &mut [u8]) -> Option<()> {
+    let mut row = [0u32; Handed::RECORD_MOST];
+    let numbers = numbers_of(a, &mut row);
+    let coded = match op {
+        Op::WriteHeader => desk::hasurenta_write_header(numbers, out),
+        Op::WriteRecord => desk::hasurenta_write_record(numbers, out),
+        _ => return read_record(rt, numbers, b),
+    };
+    say(rt, coded, 1, out)
+}
+
 fn answer(
     rt: &(impl Print + Eprint),
     number: u8,
@@ -95,17 +118,14 @@ fn answer(
     for byte in out.iter_mut() {
         *byte = Lent::BYTE;
     }
-    let mut row = [0u32; Handed::RECORD_MOST];
     let coded = match Op::try_from(number) {
         Ok(Op::Journal) => desk::hasurenta_journal(a),
         Ok(Op::Day) => desk::hasurenta_day(a, out),
         Ok(Op::Sheet) => desk::hasurenta_sheet(a, out),
         Ok(Op::Check) => desk::hasurenta_check(a, b),
         Ok(Op::Totals) => return totals(rt, a),
-        Ok(Op::WriteHeader) => desk::hasurenta_write_header(numbers_of(a, &mut row), out),
-        Ok(Op::WriteRecord) => desk::hasurenta_write_record(numbers_of(a, &mut row), out),
-        Ok(Op::ReadRecord) => return read_record(rt, numbers_of(a, &mut row), b),
         Ok(Op::Rewrite) => desk::hasurenta_rewrite(a, out),
+        Ok(op) => return numbered(rt, op, a, b, out),
         Err(_) => Reply::UNKNOWN_OP,
     };
     say(rt, coded, 1, out)
@@ -115,10 +135,13 @@ fn fill<R: Read>(reader: &mut R, buf: &mut [u8]) -> Option<()> {
     reader.read_exact(buf).ok()
 }
 
-fn size<R: Read>(reader: &mut R) -> Option<usize> {
-    let mut word = [0u8; 4];
-    fill(reader, &mut word)?;
-    Some(u32::from_le_bytes(word) as usize)
+// A question's op, cap, na and nb. The thirteen bytes are read at once: a read is a call of the system.
+fn head<R: Read>(reader: &mut R) -> Option<(u8, [usize; 3])> {
+    let mut bytes = [0u8; Question::HEAD];
+    fill(reader, &mut bytes)?;
+    let (sizes, _) = bytes[1..].as_chunks::<4>();
+    let sizes = [sizes[0], sizes[1], sizes[2]].map(|size| u32::from_le_bytes(size) as usize);
+    Some((bytes[0], sizes))
 }
 
 // Reads one question whole and answers it; nothing where the run ends.
@@ -129,16 +152,12 @@ fn turn<R: Read>(
     b: &mut [u8; Question::MOST],
     out: &mut [u8; Question::MOST],
 ) -> Option<()> {
-    let mut op = [0u8; 1];
-    fill(reader, &mut op)?;
-    let cap = size(reader)?;
-    let na = size(reader)?;
-    let nb = size(reader)?;
+    let (op, [cap, na, nb]) = head(reader)?;
     let a = a.get_mut(..na)?;
     fill(reader, a)?;
     let b = b.get_mut(..nb)?;
     fill(reader, b)?;
-    answer(rt, op[0], a, b, out.get_mut(..cap)?)
+    answer(rt, op, a, b, out.get_mut(..cap)?)
 }
 
 // Nothing says that the input ends, so the turns are counted up to a number that no run uses up.

@@ -1,4 +1,6 @@
 // Lines of numbers in decimal, each filled up with spaces to one length, so that a read takes one line.
+ghost use Rattle.std.specs.Prelude.{◌≤◌};
+
 use crate::Fault;
 use std::io;
 use std::slice::Iter;
@@ -14,11 +16,20 @@ impl Line {
     const ENOUGH: u32 = 400000000;
 }
 
+fn figure(digit: u8) -> u32
+    ensures { result ≤ 9 }
+{
+    match digit {
+        b'0'..=b'9' => u32::from(digit - b'0'),
+        _ => 0,
+    }
+}
+
 fn with_digit(value: u32, digit: u8) -> u32 {
     if Line::ENOUGH < value {
         return value;
     }
-    value * 10 + u32::from(digit.saturating_sub(b'0'))
+    value * 10 + figure(digit)
 }
 
 // The next number, and what stands behind its last digit; where there is no number, 0.

@@ -201,8 +201,10 @@ pub fn tell<W: Write>(
 {
     let mut executions = [Execution::default(); Exchanges::MOST as usize];
     let (list, _) = list[..listed * Row::WORDS].as_chunks::<{ Row::WORDS }>();
+    // Behind the last event that is listed no order is received, and no record is read for one.
+    let events = list.last().map_or(0, |row| row[Row::EVENT] as usize + 1);
     let mut verdicts = list.iter().map(Verdict::of_row);
-    for (event, entry) in records.enumerate() {
+    for (event, entry) in records.take(events).enumerate() {
         let rec = entry.taken.rec;
         if rec.kind == Rec::RECEIVED {
             let Some(verdict) = verdicts.find(|verdict| event <= verdict.event as usize) else {
