@@ -86,16 +86,21 @@ module _ (w : ℕ) (of : Quote → ℕ) (quotes : List ℕ) (shows : Shows w of 
       let here = shows past held n series ((n * many_series + series) * 8) (omega arith) low (record { is = refl; small = omega arith }) in
       rw (words_are n (omega arith), here) (sym (map_more (λ exchange. of (standing exchange series past)) (up_to n) (suc n)))
 
-module _ (R : ℕ → ℕ → ℕ → Type 0) (g : List ℕ → ℕ) (op : ℕ → ℕ → ℕ) (more : (xs : List ℕ) (x : ℕ) → g (xs ++ (x ∷ [])) ≡ op (g xs) x) (none : 0 ≡ g [])
-    (gives : (a x b : ℕ) → R a x b → b ≡ op a x) where
-  best_of : (xs : List ℕ) (b : ℕ) → FoldsTo R 0 xs b → b ≡ g xs
-  best_of xs b f = chained_keeps R (λ ys a. a ≡ g ys) (λ ys a x c e r. gives a x c r ∙ rw e (sym (more ys x))) xs 0 b none f
-
 -- ---- the best b of the first y exchanges, and of all
 
 pub record Best (g : List ℕ → ℕ) (of : Quote → ℕ) (quotes : List ℕ) (exchanges series y b : ℕ) : Type 0 where
   pub few : y ≤ exchanges
   pub so : (past : History) → Quoted past quotes → b ≡ g (map (λ exchange. of (standing exchange series past)) (up_to y))
+
+module _ (R : ℕ → ℕ → ℕ → Type 0) (g : List ℕ → ℕ) (op : ℕ → ℕ → ℕ) (more : (xs : List ℕ) (x : ℕ) → g (xs ++ (x ∷ [])) ≡ op (g xs) x) (none : 0 ≡ g [])
+    (gives : (a x b : ℕ) → R a x b → b ≡ op a x) where
+  best_of : (xs : List ℕ) (b : ℕ) → FoldsTo R 0 xs b → b ≡ g xs
+  best_of xs b f = chained_keeps R (λ ys a. a ≡ g ys) (λ ys a x c e r. gives a x c r ∙ rw e (sym (more ys x))) xs 0 b none f
+
+  best_so_far : (w : ℕ) (of : Quote → ℕ) (quotes : List ℕ) → Shows w of quotes → (exchanges series : ℕ) → exchanges ≤ most_exchanges → series < many_series
+      → (y b : ℕ) → y ≤ exchanges → BestOf R quotes series w y b → Best g of quotes exchanges series y b
+  best_so_far w of quotes shows exchanges series few low y b l f =
+      record { few = l; so = λ past held. rw (← words_are w of quotes shows past held series low y (omega arith)) (best_of _ b f.folds) }
 
 module _ (quotes : List ℕ) (exchanges series : ℕ) where
   module _ (y b : ℕ) where
@@ -108,28 +113,16 @@ module _ (quotes : List ℕ) (exchanges series : ℕ) where
     offer_all r l = record { so = λ h past en held. let k : h.exchanges ≡ y = omega (arith, r.few) in rw k (r.so past held) }
 
 module _ (R : ℕ → ℕ → ℕ → Type 0) (quotes : List ℕ) (exchanges series r : ℕ) (few : exchanges ≤ most_exchanges) (low : series < many_series) where
-  module _ (gives : (a x b : ℕ) → R a x b → b ≡ max a x) where
-    bid_best : (y : ℕ) → y ≤ exchanges → BestOf R quotes series 2 y r → Best highest bid_of quotes exchanges series y r
-    unfolding highest
-    bid_best y l f =
-        record {
-          few = l;
-          so = λ past held. rw (← words_are 2 bid_of quotes (bid_shown quotes) past held series low y (omega arith)) (best_of R highest max highest_more refl gives _ r f.folds);
-        }
-
-  module _ (gives : (a x b : ℕ) → R a x b → b ≡ lower_of a x) where
-    offer_best : (y : ℕ) → y ≤ exchanges → BestOf R quotes series 5 y r → Best lowest offer_of quotes exchanges series y r
-    unfolding lowest
-    offer_best y l f =
-        record {
-          few = l;
-          so = λ past held. rw (← words_are 5 offer_of quotes (offer_shown quotes) past held series low y (omega arith)) (best_of R lowest lower_of lowest_more refl gives _ r f.folds);
-        }
-
   pub bid_found : BestOf R quotes series 2 exchanges r → ((a x b : ℕ) → R a x b → b ≡ max a x) → BidIs quotes exchanges series r
-  bid_found f gives = bid_all quotes exchanges series exchanges r (bid_best gives exchanges (omega arith) f) (omega arith)
+  unfolding highest
+  bid_found f gives =
+      bid_all quotes exchanges series exchanges r
+      (best_so_far R highest max highest_more refl gives 2 bid_of quotes (bid_shown quotes) exchanges series few low exchanges r (omega arith) f) (omega arith)
 
   pub offer_found : BestOf R quotes series 5 exchanges r → ((a x b : ℕ) → R a x b → b ≡ lower_of a x) → OfferIs quotes exchanges series r
-  offer_found f gives = offer_all quotes exchanges series exchanges r (offer_best gives exchanges (omega arith) f) (omega arith)
+  unfolding lowest
+  offer_found f gives =
+      offer_all quotes exchanges series exchanges r
+      (best_so_far R lowest lower_of lowest_more refl gives 5 offer_of quotes (offer_shown quotes) exchanges series few low exchanges r (omega arith) f) (omega arith)
 
 pub ruleset price_laws = (bid_found, offer_found)
